@@ -1,0 +1,4 @@
+pub mod Crash
+pub mod Fault
+pub mod Files
+pub mod Sink

@@ -1,0 +1,11 @@
+//! The outside world as two traits: files by name, and a sink for what is printed. Each tells as much of itself as it
+//! can: what it holds, what was asked of it, and how often it failed.
+#![tactic(auto)]
+
+mod fault;
+mod files;
+mod sink;
+
+pub use fault::FileFault;
+pub use files::Files;
+pub use sink::Sink;

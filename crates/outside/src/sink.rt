@@ -1,0 +1,22 @@
+ghost use Rattle.std.specs.Prelude.{◌≡◌, ◌<◌, ℕ, List, Option, length, OnOk, IsErrOf};
+ghost use Rattle.outside.specs.Fault.{Counts};
+ghost use Rattle.outside.specs.Sink.{holding, HoldsPart};
+
+use crate::FileFault;
+
+/// Where printed bytes go.
+pub trait Sink {
+    /// What it holds, where it tells.
+    ghost held: { Self → Option (List ℕ) };
+
+    /// How often a write has failed. It never falls, and ends at 2^64 - 1.
+    ghost faults: { Self → ℕ };
+
+    /// Writes one piece at the end.
+    fn write(&mut self, bytes: &[u8]) -> Result<(), FileFault>
+        requires { 0 < length bytes.now }
+        ensures ok { OnOk result (held self.new ≡ holding (held self.old) bytes.now) }
+        ensures failed { IsErrOf result FileFault.Failed → HoldsPart (held self.old) bytes.now (held self.new) }
+        ensures memory { IsErrOf result FileFault.NoMemory → held self.new ≡ held self.old }
+        ensures count { Counts (faults self.old) (faults self.new) result };
+}
