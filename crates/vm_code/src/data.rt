@@ -1,7 +1,7 @@
 // The data codes: so many bytes behind the code, which are pushed.
 ghost use Rattle.std.specs.Prelude.{◌≡◌, ◌<◌, ◌≤◌, ◌^◌, ◌+◌, length, IfOk};
 ghost use Rattle.vm_code.specs.Instruction.{data_at, counted_at, little_endian};
-ghost use Rattle.vm_code.specs.Seen.{seen_answer};
+ghost use Rattle.vm_code.specs.Seen.{Reads};
 
 use crate::{CodeFault, Instruction};
 
@@ -14,7 +14,7 @@ pub fn counted_data(
 ) -> Result<Instruction<'_>, CodeFault>
     requires short { field ≤ 4 }
     requires count { count < 2 ^ 32 }
-    ensures reads { seen_answer result ≡ data_at code field count behind.now }
+    ensures reads { Reads result (data_at code field count behind.now) }
     ensures within { IfOk result (λ i. (0 < i.len) × (i.len ≤ 1 + length behind.now)) }
 {
     let end = field + count as usize;
@@ -32,7 +32,7 @@ pub fn counted_data(
 // The count stands in the field, its lowest byte first.
 pub fn counted(code: u8, field: usize, behind: &[u8]) -> Result<Instruction<'_>, CodeFault>
     requires { field ≤ 4 }
-    ensures reads { seen_answer result ≡ counted_at code field behind.now }
+    ensures reads { Reads result (counted_at code field behind.now) }
     ensures within { IfOk result (λ i. (0 < i.len) × (i.len ≤ 1 + length behind.now)) }
 {
     if field > behind.len() {

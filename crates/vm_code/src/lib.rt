@@ -3,7 +3,7 @@
 
 ghost use Rattle.std.specs.Prelude.{◌≡◌, ◌<◌, ◌≤◌, ◌+◌, length, IfOk};
 ghost use Rattle.vm_code.specs.Instruction.{instruction_at, decoded, is_plain};
-ghost use Rattle.vm_code.specs.Seen.{seen_answer};
+ghost use Rattle.vm_code.specs.Seen.{Reads};
 
 pub mod codes;
 mod data;
@@ -42,7 +42,7 @@ pub enum CodeFault {
 /// inside it.
 pub fn next<'a>(program: &'a [u8], at: u64) -> Result<Instruction<'a>, CodeFault>
     requires { at < length program.now }
-    ensures reads { seen_answer result ≡ instruction_at program.now at }
+    ensures reads { Reads result (instruction_at program.now at) }
     ensures within { IfOk result (λ i. (0 < i.len) × (at + i.len ≤ length program.now)) }
 {
     let at = at as usize;
@@ -51,7 +51,7 @@ pub fn next<'a>(program: &'a [u8], at: u64) -> Result<Instruction<'a>, CodeFault
 
 // The instruction of a code and the bytes behind it.
 fn decode(code: u8, behind: &[u8]) -> Result<Instruction<'_>, CodeFault>
-    ensures reads { seen_answer result ≡ decoded code behind.now }
+    ensures reads { Reads result (decoded code behind.now) }
     ensures within { IfOk result (λ i. (0 < i.len) × (i.len ≤ 1 + length behind.now)) }
 {
     match code {
