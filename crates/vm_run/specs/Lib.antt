@@ -1,5 +1,6 @@
-pub use Rattle.vm_num.specs.Item
-pub use Rattle.vm_code.specs.Instruction
+pub mod Gives
+pub mod Operands
 pub mod Row
 pub mod Run
+pub mod Stack
 pub mod Verdict

@@ -3,9 +3,8 @@ use Rattle.std.specs.Prelude.{◌≡◌, ℕ, ◌+◌, ◌-◌, ◌<◌, List, [
 use Rattle.vm_num.specs.Item.{Item, total_cost}
 use Rattle.vm_num.specs.declared.failure.Failure.{Failure}
 use Rattle.vm_num.specs.declared.failure.Failure.TheVariants as failures
-use Rattle.vm_code.specs.declared.CodeFault.{CodeFault}
-use Rattle.vm_code.specs.declared.CodeFault.TheVariants as faults
-use Rattle.vm_code.specs.Instruction.{Decoded, instruction_at}
+use Rattle.vm_code.specs.Instruction.{Decoded, Misread, instruction_at}
+use Rattle.vm_code.specs.Instruction as misread
 use Rattle.vm_run.specs.Row.{Context, Check, Effect, Row, Faults, Does, row}
 
 -- how a run ends: at the program's end, with what is left of the limit, the items of both stacks, and the counts of
@@ -39,13 +38,12 @@ abbrev pub row_move : ℕ → List Item → List Item → ℕ → Row → Move
 row_move place items alt limit (Faults kind) = Stops kind
 row_move place items alt limit (Does e) = paid place items alt limit e
 
-abbrev pub failure_of : CodeFault → Failure
-failure_of faults.Short = failures.Short
-failure_of faults.BadOpcode = failures.BadOpcode
-failure_of faults.NoMemory = failures.BadOpcode
+abbrev pub failure_of : Misread → Failure
+failure_of misread.Short = failures.Short
+failure_of misread.BadOpcode = failures.BadOpcode
 
-abbrev pub instruction_move : Context → Check → ℕ → ℕ → List Item → List Item → ℕ → Result Decoded CodeFault → Move
-instruction_move context check size place items alt limit (Err fault) = Stops (failure_of fault)
+abbrev pub instruction_move : Context → Check → ℕ → ℕ → List Item → List Item → ℕ → Result Decoded Misread → Move
+instruction_move context check size place items alt limit (Err why) = Stops (failure_of why)
 instruction_move context check size place items alt limit (Ok i) = row_move (place + i.len) items alt limit (row context check i size items alt)
 
 -- the instruction at a place of a program, on these items and with this limit left
