@@ -1,6 +1,6 @@
 -- What each instruction does: the code table.
 use Rattle.std.specs.Prelude.{◌≡◌, ℕ, ◌+◌, ◌-◌, ◌==◌, ◌&&◌, Bool, true, false, List, [], ◌∷◌, length, min, Option, Some, None, if◌then◌else◌, nat_le, bytes_eq, ℤ, pos, negsuc, int_lt}
-use Rattle.std.specs.Int.{int_eq}
+use Rattle.std.specs.Ordering.{int_eq}
 use Rattle.std.specs.Option.{option_map}
 use Rattle.vm_num.specs.Item.{Item, num, num_bytes, is_true, sum_of, difference_of}
 use Rattle.vm_num.specs.declared.failure.Failure.{Failure}
@@ -71,18 +71,18 @@ of_numbers f a b (Some x) None = Faults BadNumber
 abbrev pub number_row : (ℤ → ℤ → Option Item) → Item → Item → Row
 number_row f a b = of_numbers f a b (num a) (num b)
 
-abbrev pub add_row : Item → Item → Row
-add_row = number_row (λ x y. option_map num_bytes (sum_of x y))
+-- the sum and the difference, where they are 64-bit numbers; whether two numbers are equal; whether the deeper one is the less
+abbrev pub sum_item : ℤ → ℤ → Option Item
+sum_item x y = option_map num_bytes (sum_of x y)
 
-abbrev pub sub_row : Item → Item → Row
-sub_row = number_row (λ x y. option_map num_bytes (difference_of x y))
+abbrev pub difference_item : ℤ → ℤ → Option Item
+difference_item x y = option_map num_bytes (difference_of x y)
 
-abbrev pub numequal_row : Item → Item → Row
-numequal_row = number_row (λ x y. Some (truth_item (int_eq x y)))
+abbrev pub equality_item : ℤ → ℤ → Option Item
+equality_item x y = Some (truth_item (int_eq x y))
 
--- whether the deeper one is the less
-abbrev pub lessthan_row : Item → Item → Row
-lessthan_row = number_row (λ x y. Some (truth_item (int_lt x y)))
+abbrev pub less_item : ℤ → ℤ → Option Item
+less_item x y = Some (truth_item (int_lt x y))
 
 -- ---- the table
 
@@ -97,19 +97,27 @@ on_two line [] = Faults Underflow
 on_two line (b ∷ []) = Faults Underflow
 on_two line (b ∷ a ∷ items) = line a b
 
--- The table, on an instruction, the program's length, and the items of the data stack and of the alt stack, the top first
--- in each.
+-- the line of the first test that holds
+abbrev pub first_line : List (Bool × Row) → Row
+first_line [] = Faults BadOpcode
+first_line (line ∷ lines) = if line.0 then line.1 else first_line lines
+
+-- The table: whether a line is that of an instruction's code, and the line, on the program's length and on the items of
+-- the data stack and of the alt stack, the top first in each.
+abbrev pub table : Context → Check → Decoded → ℕ → List Item → List Item → List (Bool × Row)
+table context check i size items alt =
+    (nat_le i.code PUSHDATA4, push_row i.pushed)
+    ∷ (i.code == NEGATIVE_ONE, push_row (num_bytes (negsuc 0)))
+    ∷ (nat_le ONE i.code && nat_le i.code SIXTEEN, push_row (num_bytes (pos (i.code - 80))))
+    ∷ (i.code == VERIFY, on_one verify_row items)
+    ∷ (i.code == DROP, on_one drop_row items)
+    ∷ (i.code == DUP, on_one dup_row items)
+    ∷ (i.code == EQUAL, on_two equal_row items)
+    ∷ (i.code == ADD, on_two (number_row sum_item) items)
+    ∷ (i.code == SUB, on_two (number_row difference_item) items)
+    ∷ (i.code == NUMEQUAL, on_two (number_row equality_item) items)
+    ∷ (i.code == LESSTHAN, on_two (number_row less_item) items)
+    ∷ []
+
 unfoldable pub row : Context → Check → Decoded → ℕ → List Item → List Item → Row
-row context check i size items alt =
-    if nat_le i.code PUSHDATA4 then push_row i.pushed
-    else (if i.code == NEGATIVE_ONE then push_row (num_bytes (negsuc 0))
-    else (if nat_le ONE i.code && nat_le i.code SIXTEEN then push_row (num_bytes (pos (i.code - 80)))
-    else (if i.code == VERIFY then on_one verify_row items
-    else (if i.code == DROP then on_one drop_row items
-    else (if i.code == DUP then on_one dup_row items
-    else (if i.code == EQUAL then on_two equal_row items
-    else (if i.code == ADD then on_two add_row items
-    else (if i.code == SUB then on_two sub_row items
-    else (if i.code == NUMEQUAL then on_two numequal_row items
-    else (if i.code == LESSTHAN then on_two lessthan_row items
-    else Faults BadOpcode))))))))))
+row context check i size items alt = first_line (table context check i size items alt)

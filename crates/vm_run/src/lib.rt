@@ -8,4 +8,4 @@ mod stack;
 mod verdict;
 
 pub use memory::NoMemory;
-pub use verdict::{Verdict, verify};
+pub use verdict::Verdict;

@@ -1,7 +1,7 @@
 // The lines of the code table.
-ghost use Rattle.std.specs.Prelude.{◌≡◌, ℕ, List, [], ◌∷◌, IfOk, IfErr, MatchResult, Some, None};
-ghost use Rattle.vm_num.specs.Item.{Item, num};
-ghost use Rattle.vm_run.specs.Row.{Context, Check, row, truth_item, verify_row, drop_row, dup_row, equal_row, add_row, sub_row, numequal_row, lessthan_row};
+ghost use Rattle.std.specs.Prelude.{◌≡◌, ℕ, List, [], ◌∷◌, length};
+ghost use Rattle.vm_num.specs.Item.{Item};
+ghost use Rattle.vm_run.specs.Row.{Context, Check, row, does, truth_item, verify_row, drop_row, dup_row, equal_row, number_row, sum_item, difference_item, equality_item, less_item};
 ghost use Rattle.vm_run.specs.Gives.{Gives};
 ghost use Rattle.vm_run.specs.Operands.{HasOne, HasTwo, AreNumbers};
 ghost use Rattle.vm_code.specs.Seen.{seen};
@@ -11,7 +11,8 @@ use crate::stack::Stack;
 use std::alloc::Global;
 use vm_code::Instruction;
 use vm_code::codes::{
-    ADD, DROP, DUP, EQUAL, FALSE, LESSTHAN, NEGATIVE_ONE, NUMEQUAL, ONE, PUSHDATA4, SIXTEEN, SUB, VERIFY,
+    ADD, DROP, DUP, EQUAL, FALSE, LESSTHAN, NEGATIVE_ONE, NUMEQUAL, ONE, PUSHDATA4, SIXTEEN, SUB,
+    VERIFY,
 };
 use vm_num::{Args, Bytes, Failure, add, read_num, sub, truth, write_num};
 
@@ -67,9 +68,9 @@ pub fn row(alloc: Global, i: &Instruction<'_>, stack: &Stack) -> Result<Effect, 
     ensures { (context : Context) (check : Check) (size : ℕ) (alt : List Item) → Gives result (row context check (seen i.now) size stack.now alt) }
 {
     match i.code {
-        FALSE..=PUSHDATA4 => effect(alloc, 0, i.pushed, 1),
-        NEGATIVE_ONE => effect(alloc, 0, write_num(-1).as_slice(), 1),
-        ONE..=SIXTEEN => effect(alloc, 0, write_num((i.code - 80) as i64).as_slice(), 1),
+        FALSE..=PUSHDATA4 => one_push(alloc, 0, i.pushed, 1),
+        NEGATIVE_ONE => one_push(alloc, 0, write_num(-1).as_slice(), 1),
+        ONE..=SIXTEEN => one_push(alloc, 0, write_num((i.code - 80) as i64).as_slice(), 1),
         VERIFY => verify_row(alloc, one(stack)?),
         DROP => drop_row(alloc, one(stack)?),
         DUP => dup_row(alloc, one(stack)?),
@@ -107,9 +108,7 @@ fn one(stack: &Stack) -> Result<&[u8], StepFault>
 fn two(stack: &Stack) -> Result<(&[u8], &[u8]), StepFault>
     ensures { HasTwo stack.now result }
 {
-    stack
-        .top_two()
-        .ok_or(StepFault::Failed(Failure::Underflow))
+    stack.top_two().ok_or(StepFault::Failed(Failure::Underflow))
 }
 
 fn numbers(a: &[u8], b: &[u8]) -> Result<(i64, i64), StepFault>
@@ -122,8 +121,8 @@ fn numbers(a: &[u8], b: &[u8]) -> Result<(i64, i64), StepFault>
 }
 
 // So many items off, and one on.
-fn effect(alloc: Global, pops: usize, pushed: &[u8], base: u64) -> Result<Effect, StepFault>
-    ensures { MatchResult result (λ e. (e.pops ≡ pops) × (e.pushes ≡ pushed.now ∷ []) × (e.base ≡ base)) (λ e. e ≡ StepFault.NoMemory) }
+fn one_push(alloc: Global, pops: usize, pushed: &[u8], base: u64) -> Result<Effect, StepFault>
+    ensures { (popped : List Item) → length popped ≡ pops → Gives result (does popped (pushed.now ∷ []) base) }
 {
     let mut pushes = Args::new(alloc);
     pushes.push(Bytes::from_slice(alloc, pushed)?)?;
@@ -176,39 +175,39 @@ fn equal_row(alloc: Global, a: &[u8], b: &[u8]) -> Result<Effect, StepFault>
     ensures { Gives result (equal_row a.now b.now) }
 {
     let shorter = a.len().min(b.len());
-    effect(alloc, 2, truth_item(a == b), 1 + shorter as u64)
+    one_push(alloc, 2, truth_item(a == b), 1 + shorter as u64)
 }
 
 fn add_row(alloc: Global, a: &[u8], b: &[u8]) -> Result<Effect, StepFault>
-    ensures { Gives result (add_row a.now b.now) }
+    ensures { Gives result (number_row sum_item a.now b.now) }
 {
     let (x, y) = numbers(a, b)?;
     match add(x, y) {
-        Some(sum) => effect(alloc, 2, write_num(sum).as_slice(), 2),
+        Some(sum) => one_push(alloc, 2, write_num(sum).as_slice(), 2),
         None => Err(StepFault::Failed(Failure::Range)),
     }
 }
 
 fn sub_row(alloc: Global, a: &[u8], b: &[u8]) -> Result<Effect, StepFault>
-    ensures { Gives result (sub_row a.now b.now) }
+    ensures { Gives result (number_row difference_item a.now b.now) }
 {
     let (x, y) = numbers(a, b)?;
     match sub(x, y) {
-        Some(difference) => effect(alloc, 2, write_num(difference).as_slice(), 2),
+        Some(difference) => one_push(alloc, 2, write_num(difference).as_slice(), 2),
         None => Err(StepFault::Failed(Failure::Range)),
     }
 }
 
 fn numequal_row(alloc: Global, a: &[u8], b: &[u8]) -> Result<Effect, StepFault>
-    ensures { Gives result (numequal_row a.now b.now) }
+    ensures { Gives result (number_row equality_item a.now b.now) }
 {
     let (x, y) = numbers(a, b)?;
-    effect(alloc, 2, truth_item(x == y), 2)
+    one_push(alloc, 2, truth_item(x == y), 2)
 }
 
 fn lessthan_row(alloc: Global, a: &[u8], b: &[u8]) -> Result<Effect, StepFault>
-    ensures { Gives result (lessthan_row a.now b.now) }
+    ensures { Gives result (number_row less_item a.now b.now) }
 {
     let (x, y) = numbers(a, b)?;
-    effect(alloc, 2, truth_item(x < y), 2)
+    one_push(alloc, 2, truth_item(x < y), 2)
 }

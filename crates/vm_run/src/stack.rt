@@ -1,12 +1,12 @@
 // The data stack.
-ghost use Rattle.std.specs.Prelude.{◌≡◌, ◌^◌, ◌-◌, [], ◌∷◌, drop, take, min, reverse, OnOk, OnErr, IfOk};
+ghost use Rattle.std.specs.Prelude.{◌≡◌, ◌^◌, ◌-◌, ◌++◌, drop, take, min, reverse, OnOk, IfOk};
 ghost use Rattle.vm_num.specs.Item.{total_cost};
 ghost use Rattle.vm_run.specs.Stack.{TopIs, TopTwoAre};
 
 use crate::NoMemory;
 use std::alloc::Global;
 use std::marker::Model;
-use vm_num::Bytes;
+use vm_num::{Args, Bytes};
 
 /// Items in order, seen with the top first.
 #[derive(Drop)]
@@ -34,12 +34,12 @@ impl Stack {
         Ok(Stack { items: copies })
     }
 
-    /// Adds an item on top.
-    pub fn push(&mut self, item: Bytes) -> Result<(), NoMemory>
-        ensures ok { OnOk result (self.new ≡ item ∷ self.old) }
-        ensures err { OnErr result (self.new ≡ self.old) }
+    /// Puts items on top, the first of them deepest.
+    pub fn push_all(&mut self, items: Args) -> Result<(), NoMemory>
+        ensures { OnOk result (self.new ≡ reverse items ++ self.old) }
     {
-        self.items.push(item)?;
+        let mut items = items.into_vec();
+        self.items.append(&mut items)?;
         Ok(())
     }
 
@@ -86,7 +86,9 @@ pub fn cost_of(items: &[Bytes]) -> u64
 {
     let mut total = 0u64;
     for item in items {
-        total = total.saturating_add(item.as_slice().len() as u64).saturating_add(8);
+        total = total
+            .saturating_add(item.as_slice().len() as u64)
+            .saturating_add(8);
     }
     total
 }

@@ -1,0 +1,4 @@
+pub mod Moves
+pub mod Payment
+pub mod Reversed
+pub mod Rows
