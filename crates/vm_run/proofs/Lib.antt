@@ -2,3 +2,4 @@ pub mod Moves
 pub mod Payment
 pub mod Reversed
 pub mod Rows
+pub mod Runs

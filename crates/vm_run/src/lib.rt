@@ -1,6 +1,7 @@
 //! The virtual machine (Chain VM 1): it runs a program on its arguments under a limit, and says how the run ends.
 #![tactic(auto)]
 
+pub mod laws;
 mod machine;
 mod memory;
 mod row;
