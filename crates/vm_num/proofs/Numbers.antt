@@ -12,14 +12,17 @@ use Rattle.vm_num.specs.Item.{Item, AreBytes, num, num_bytes, without_high_zeros
 
 -- ---- zeros at the end
 
-onto-length : (b : ℕ) (bs : List ℕ) → length (onto b bs) ≤ suc (length bs)
-onto-length b [] = grind (arith, common_steps, nat_tests)
-onto-length b (c ∷ cs) = omega arith
+-- one byte in front makes a list at most one longer
+length-onto : (b : ℕ) (bs : List ℕ) → length (onto b bs) ≤ suc (length bs)
+length-onto b [] = grind (arith, common_steps, nat_tests)
+length-onto b (c ∷ cs) = omega arith
 
-pub without_high_zeros-length : (bs : List ℕ) → length (without_high_zeros bs) ≤ length bs
-without_high_zeros-length [] = omega arith
-without_high_zeros-length (b ∷ bs) = omega (arith, onto-length b (without_high_zeros bs), without_high_zeros-length bs)
+-- nothing is added
+pub length-without_high_zeros : (bs : List ℕ) → length (without_high_zeros bs) ≤ length bs
+length-without_high_zeros [] = omega arith
+length-without_high_zeros (b ∷ bs) = omega (arith, length-onto b (without_high_zeros bs), length-without_high_zeros bs)
 
+-- zeros alone are nothing
 without_high_zeros-replicate : (k : ℕ) → without_high_zeros (replicate k 0) ≡ []
 without_high_zeros-replicate zero = refl
 without_high_zeros-replicate (suc k) = ap (onto 0) (without_high_zeros-replicate k)
@@ -40,6 +43,7 @@ onto-end : (b y : ℕ) (bs : List ℕ) → onto b (bs ++ y ∷ []) ≡ b ∷ bs 
 onto-end b y [] = refl
 onto-end b y (c ∷ cs) = refl
 
+-- a list that ends in another byte than zero stays
 pub without_high_zeros-whole : (bs : List ℕ) (y : ℕ) → y ≢ 0 → without_high_zeros (bs ++ y ∷ []) ≡ bs ++ y ∷ []
 without_high_zeros-whole [] y h = onto-nonzero y h
 without_high_zeros-whole (b ∷ bs) y h = ap (onto b) (without_high_zeros-whole bs y h) ∙ onto-end b y bs
@@ -65,46 +69,52 @@ refilled (b ∷ bs) k e = onto-refilled b bs (without_high_zeros bs) k (refilled
 abbrev filled : Item → List ℕ
 filled b = b ++ replicate (8 - length b) 0
 
-filled-length : (b : Item) → length b ≤ 8 → length (filled b) ≡ 8
-filled-length b h = simp (length-append, length-replicate) (omega arith)
+length-filled : (b : Item) → length b ≤ 8 → length (filled b) ≡ 8
+length-filled b h = simp (length-append, length-replicate) (omega arith)
 
 filled-bytes : (b : Item) → AreBytes b → AreBytes (filled b)
 filled-bytes b are i = grind (arith, common_steps, are i)
 
+-- more than 8 bytes are no number
 pub num_past : (b : Item) → 8 < length b → num b ≡ None
 unfolding num
 num_past b h = rw (lt-leb (length b) 8 h)
 
+-- up to 8 bytes are the number of the filled item
 pub num_is : (b : Item) → length b ≤ 8 → num b ≡ Some (cast_signed w64 (from_le_bytes w64 (filled b)))
 unfolding num
 num_is b h = rw (le-leb (length b) 8 h)
 
 -- ---- the shortest spelling
 
-pub num_bytes-length : (n : ℤ) → length (num_bytes n) ≤ 8
+-- a spelling has at most 8 bytes
+pub length-num_bytes : (n : ℤ) → length (num_bytes n) ≤ 8
 unfolding num_bytes
-num_bytes-length n = without_high_zeros-length (to_le_bytes w64 (cast_unsigned w64 n))
+length-num_bytes n = length-without_high_zeros (to_le_bytes w64 (cast_unsigned w64 n))
 
+-- eight bytes without their high zeros, filled again
 filled-trimmed : (bs : List ℕ) → length bs ≡ 8 → filled (without_high_zeros bs) ≡ bs
-filled-trimmed bs h = refilled bs _ (omega (arith, without_high_zeros-length bs))
+filled-trimmed bs h = refilled bs _ (omega (arith, length-without_high_zeros bs))
 
 filled-num_bytes : (n : ℤ) → filled (num_bytes n) ≡ to_le_bytes w64 (cast_unsigned w64 n)
 unfolding num_bytes
 filled-num_bytes n = filled-trimmed (to_le_bytes w64 (cast_unsigned w64 n)) refl
 
-pub read_back : (n : ℤ) → FitsSigned w64 n → num (num_bytes n) ≡ Some n
-read_back n fits =
+-- a spelling is read as its number
+pub num-num_bytes : (n : ℤ) → FitsSigned w64 n → num (num_bytes n) ≡ Some n
+num-num_bytes n fits =
     let bits = cast_unsigned w64 n in
     let below : bits < 2 ^ 64 = omega (arith, ints) in
-    num_is (num_bytes n) (num_bytes-length n)
+    num_is (num_bytes n) (length-num_bytes n)
     ∙ ap (λ l. Some (cast_signed w64 (from_le_bytes w64 l))) (filled-num_bytes n)
     ∙ ap (λ x. Some (cast_signed w64 x)) (from_le_bytes-to_le_bytes_8 bits below)
     ∙ ap Some (to_z-of_z w64 n fits)
 
--- the bytes of 8 are those of their number
+-- eight bytes make a number of 64 bits
 below_top : (bs : List ℕ) → AreBytes bs → from_le_bytes w64 bs < 2 ^ 64
 below_top bs are = omega (arith, are 0, are 1, are 2, are 3, are 4, are 5, are 6, are 7)
 
+-- the spelling of what a short item is read as: the item without its high zeros
 num_bytes-filled : (n : ℤ) (b : Item) → AreBytes b → num b ≡ Some n → length b ≤ 8 → num_bytes n ≡ without_high_zeros (filled b)
 unfolding num_bytes
 num_bytes-filled n b are e within =
@@ -112,15 +122,16 @@ num_bytes-filled n b are e within =
     let is : n ≡ cast_signed w64 bits = cc (num_is b within) in
     ap (λ z. without_high_zeros (to_le_bytes w64 (cast_unsigned w64 z))) is
     ∙ ap (λ m. without_high_zeros (to_le_bytes w64 m)) (of_z-to_z w64 bits (below_top (filled b) (filled-bytes b are)))
-    ∙ ap without_high_zeros (le_bytes_8 (filled b) bits (filled-length b within) (filled-bytes b are) refl)
+    ∙ ap without_high_zeros (le_bytes_8 (filled b) bits (length-filled b within) (filled-bytes b are) refl)
 
-shortest_within : (n : ℤ) (b : Item) → AreBytes b → num b ≡ Some n → length b ≤ 8 → length (num_bytes n) ≤ length b
-shortest_within n b are e within =
+length-num_bytes_within : (n : ℤ) (b : Item) → AreBytes b → num b ≡ Some n → length b ≤ 8 → length (num_bytes n) ≤ length b
+length-num_bytes_within n b are e within =
     let same : length (num_bytes n) ≡ length (without_high_zeros b) = ap length (num_bytes-filled n b are e within ∙ without_high_zeros-filled b (8 - length b)) in
-    omega (arith, without_high_zeros-length b)
+    omega (arith, length-without_high_zeros b)
 
-pub shortest : (n : ℤ) (b : Item) → AreBytes b → num b ≡ Some n → length (num_bytes n) ≤ length b
-shortest n b are e = elim (cases_lt 8 (length b)) [ inl over ↦ cc (num_past b over) | inr within ↦ shortest_within n b are e within ]
+-- no item that is read as a number is shorter than its spelling
+pub length-num_bytes_least : (n : ℤ) (b : Item) → AreBytes b → num b ≡ Some n → length (num_bytes n) ≤ length b
+length-num_bytes_least n b are e = elim (cases_lt 8 (length b)) [ inl over ↦ cc (num_past b over) | inr within ↦ length-num_bytes_within n b are e within ]
 
 -- ---- dropping the zeros one by one, from the end
 
@@ -129,10 +140,15 @@ last_of_front bs n some within =
     let same : n ≡ n - 1 + 1 = omega arith in
     ap (λ k. take k bs) same ∙ take_more bs (n - 1) 0 (omega arith)
 
+-- a zero at the end of the front does not count
 pub one_less : (bs : List ℕ) (n : ℕ) → 0 < n → n ≤ length bs → get_or bs (n - 1) 0 ≡ 0 → without_high_zeros (take (n - 1) bs) ≡ without_high_zeros (take n bs)
 one_less bs n some within zeroed =
     sym (ap without_high_zeros (last_of_front bs n some within ∙ ap (λ y. take (n - 1) bs ++ y ∷ []) zeroed) ∙ without_high_zeros-zero (take (n - 1) bs))
 
+-- a front that ends in another byte is whole
 pub none_less : (bs : List ℕ) (n : ℕ) → 0 < n → n ≤ length bs → get_or bs (n - 1) 0 ≢ 0 → without_high_zeros (take n bs) ≡ take n bs
 none_less bs n some within nonzero =
     rw (last_of_front bs n some within) (without_high_zeros-whole (take (n - 1) bs) _ nonzero)
+
+-- what holds of every spelling, for the `using` of a crate above
+pub ruleset spellings = (length-num_bytes, num-num_bytes)

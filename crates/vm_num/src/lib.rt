@@ -8,6 +8,8 @@ mod memory;
 mod number;
 mod push;
 mod sums;
+#[cfg(test)]
+mod tests;
 
 pub use failure::Failure;
 pub use lists::{Args, Bytes};

@@ -4,6 +4,7 @@ ghost use Rattle.vm_num.specs.Push.{push_of, push_int_of};
 use crate::{NoMemory, write_num};
 
 /// Appends the shortest instruction that pushes this item. After a refusal `out` is as it was.
+#[tactic(auto, unfolding(crate::specs::Push::push_of))]
 pub fn push_bytes(out: &mut Vec<u8>, item: &[u8]) -> Result<(), NoMemory>
     requires { length item.now < 2 ^ 32 }
     ensures ok { OnOk result (out.new.items ≡ out.old.items ++ push_of item.now) }
