@@ -1,0 +1,23 @@
+//! Strings of bytes, and how numbers and strings are spelled in bytes: a number is a varint, base 128 with the least
+//! significant group first and the high bit set on all bytes but the last; a string is its length and its bytes.
+#![tactic(auto)]
+
+mod fault;
+mod laws;
+mod lists;
+mod memory;
+mod numbers;
+mod strings;
+
+pub use fault::WireFault;
+pub use laws::spellings;
+pub use lists::{Args, Bytes};
+pub use memory::NoMemory;
+pub use numbers::{put_varint, take_varint};
+pub use strings::{put_varstring, take_varstring};
+
+/// The name of an entry or an asset: 32 raw bytes.
+pub type Id = [u8; 32];
+
+#[cfg(test)]
+mod tests;
