@@ -4,8 +4,13 @@
 
 mod fault;
 mod files;
+mod mem_sink;
 mod sink;
+mod std_sink;
+mod whole;
 
 pub use fault::FileFault;
 pub use files::Files;
+pub use mem_sink::MemSink;
 pub use sink::Sink;
+pub use std_sink::StdSink;
