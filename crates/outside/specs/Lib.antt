@@ -1,7 +1,10 @@
+pub mod Begun
 pub mod Count
 pub mod Crash
 pub mod Fault
 pub mod Files
+pub mod MemFiles
 pub mod MemSink
 pub mod Sink
 pub mod Whole
+pub mod Written

@@ -2,15 +2,22 @@
 //! can: what it holds, what was asked of it, and how often it failed.
 #![tactic(auto)]
 
+mod begun;
+mod contents;
 mod fault;
 mod files;
+mod mem_files;
 mod mem_sink;
+mod memory;
+mod plan;
 mod sink;
 mod std_sink;
 mod whole;
 
 pub use fault::FileFault;
 pub use files::Files;
+pub use mem_files::MemFiles;
 pub use mem_sink::MemSink;
+pub use memory::NoMemory;
 pub use sink::Sink;
 pub use std_sink::StdSink;

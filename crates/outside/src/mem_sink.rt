@@ -2,6 +2,7 @@ ghost use Rattle.std.specs.Prelude.{◌≡◌, ◌<◌, ◌↔◌, ◌++◌, [],
 ghost use Rattle.outside.specs.Count.{counted};
 ghost use Rattle.outside.specs.Fault.{Counts};
 
+use crate::plan::is_to_fail;
 use crate::{FileFault, Sink};
 use std::alloc::Global;
 use std::marker::Model;
@@ -70,12 +71,11 @@ impl Sink for MemSink {
     {
         let call = self.calls;
         self.calls = call.saturating_add(1);
-        if self.fails.contains(&call) {
+        if is_to_fail(&self.fails, call) {
             self.faults = self.faults.saturating_add(1);
             return Err(FileFault::Failed);
         }
-        self.content
-            .extend_from_slice(bytes)
-            .map_err(|_| FileFault::NoMemory)
+        self.content.extend_from_slice(bytes)?;
+        Ok(())
     }
 }
