@@ -1,5 +1,5 @@
 -- What is known of a writer's bytes after several calls.
-use Rattle.std.proofs.Common.{◌≡◌, ℕ, List, [], ◌∷◌, ◌++◌, ◌-◌, arith, take, drop, length, Option, Some, None, Result, Ok, Err, sym, ap, ◌∙◌, append_assoc}
+use Rattle.std.proofs.Common.{◌≡◌, ℕ, List, [], ◌∷◌, ◌++◌, ◌-◌, arith, take, drop, length, Option, Some, None,  Result, Ok, Err, sym, ap, ◌∙◌, append_assoc}
 use Rattle.std.specs.Result.{IsErr}
 use Rattle.std.proofs.lemmas.Bool.{false≢true}
 use Rattle.std.specs.Io.KnownBytes.{Appends, Keeps}
@@ -30,11 +30,6 @@ Appends-front old new bytes done rest whole p =
 pub WritesWhole-err : {T E : Type 0} (old new : Option (List ℕ)) (bytes : List ℕ) (r : Result T E) → IsErr r → (n : ℕ) × Appends old new (take n bytes) → WritesWhole old new bytes r
 WritesWhole-err old new bytes (Ok x) bad part = absurd (false≢true bad)
 WritesWhole-err old new bytes (Err e) bad part = part
-
--- where all is written, at Ok or Err
-pub WritesWhole-all : {T E : Type 0} (old new : Option (List ℕ)) (bytes : List ℕ) (r : Result T E) → Appends old new bytes → WritesWhole old new bytes r
-WritesWhole-all old new bytes (Ok x) p = p
-WritesWhole-all old new bytes (Err e) p = Appends-front old new bytes bytes [] (append-nil bytes) p
 
 -- the part that a write took goes from the rest to what is done
 pub moved_part : (bytes done rest : List ℕ) (n : ℕ) → done ++ rest ≡ bytes → (done ++ take n rest) ++ drop n rest ≡ bytes

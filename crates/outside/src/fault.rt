@@ -1,5 +1,6 @@
 use crate::NoMemory;
 use std::alloc::{AllocError, AllocFailed};
+use std::io;
 
 /// Why a call on the outside world was not done.
 #[derive(Clone, Copy, Debug, PartialEq, Eq)]
@@ -40,5 +41,16 @@ impl<T: Drop> From<AllocFailed<T>> for FileFault {
 
     fn from(_: AllocFailed<T>) -> FileFault {
         FileFault::NoMemory
+    }
+}
+
+impl From<io::Error> for FileFault {
+    ghost use Rattle.std.specs.Prelude.{◌≡◌};
+    ghost use Rattle.outside.specs.declared.fault.FileFault.TheVariants as fault;
+
+    ghost from_gives = { λ _ e. e ≡ fault.Failed };
+
+    fn from(_: io::Error) -> FileFault {
+        FileFault::Failed
     }
 }

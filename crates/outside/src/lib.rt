@@ -11,8 +11,10 @@ mod mem_sink;
 mod memory;
 mod plan;
 mod sink;
+mod std_files;
 mod std_sink;
-mod whole;
+mod tally;
+mod turns;
 
 pub use fault::FileFault;
 pub use files::Files;
@@ -20,4 +22,5 @@ pub use mem_files::MemFiles;
 pub use mem_sink::MemSink;
 pub use memory::NoMemory;
 pub use sink::Sink;
+pub use std_files::StdFiles;
 pub use std_sink::StdSink;

@@ -1,6 +1,7 @@
 ghost use Rattle.std.specs.Prelude.{◌≡◌};
 
-use crate::whole::write_whole;
+use crate::tally::count_fault;
+use crate::turns::write_whole;
 use crate::{FileFault, Sink};
 use std::io;
 
@@ -31,12 +32,7 @@ impl<R: Print> Sink for StdSink<'_, R> {
     /// Each error of the runtime is `Failed`, and so is a write that takes nothing.
     fn write(&mut self, bytes: &[u8]) -> Result<(), FileFault> {
         let mut out = io::writer(self.rt);
-        match write_whole(&mut out, bytes) {
-            Ok(()) => Ok(()),
-            Err(_) => {
-                self.faults = self.faults.saturating_add(1);
-                Err(FileFault::Failed)
-            }
-        }
+        let answer = write_whole(&mut out, bytes);
+        count_fault(&mut self.faults, answer)
     }
 }

@@ -1,6 +1,6 @@
 use Rattle.std.proofs.Common.{◌≡◌, ◌++◌, List, ℕ, length}
 use Rattle.std.specs.Io.KnownBytes.{Appends}
-use Rattle.outside.proofs.whole.write_whole.Given as goal
+use Rattle.outside.proofs.turns.write_whole.Given as goal
 
 -- some bytes were written, and these with the rest are all of them
 abbrev pub invariant-loop-rest : goal.invariant-loop-rest
