@@ -21,7 +21,8 @@ done_at kind m name bytes q true is =
     rw ((bytes_eq-Decides q name).0 is) (after_done kind (finite.get m name) bytes)
 done_at kind m name bytes q false is = refl
 
-pub AllRead-done : (kind : WriteKind) (m : Contents) (name bytes : List ℕ) → AllRead (write_of kind name bytes true) (Some (finite.get m)) (Some (finite.get (finite.insert m name (content_after kind (finite.get m name) bytes))))
+-- a write that was done
+AllRead-done : (kind : WriteKind) (m : Contents) (name bytes : List ℕ) → AllRead (write_of kind name bytes true) (Some (finite.get m)) (Some (finite.get (finite.insert m name (content_after kind (finite.get m name) bytes))))
 AllRead-done kind m name bytes = λ q.
     let now = finite.get-insert nat_list_cmp_total m name (content_after kind (finite.get m name) bytes) q ∙ ap (λ b. cond b (Some (content_after kind (finite.get m name) bytes)) (finite.get m q)) (is_eq-slice_cmp q name) in
     rw now (done_at kind m name bytes q (bytes_eq q name) refl)
@@ -34,3 +35,7 @@ nothing_at kind bytes old false = refl
 -- a write that failed and did nothing
 pub AllRead-nothing : (kind : WriteKind) (f : List ℕ → Content) (name bytes : List ℕ) → AllRead (write_of kind name bytes false) (Some f) (Some f)
 AllRead-nothing kind f name bytes = λ q. nothing_at kind bytes (f q) (bytes_eq q name)
+
+-- the same, through what was known between
+pub AllRead-after : (kind : WriteKind) (old mid new : Contents) (name bytes : List ℕ) → mid ≡ old → new ≡ finite.insert mid name (content_after kind (finite.get mid name) bytes) → AllRead (write_of kind name bytes true) (Some (finite.get old)) (Some (finite.get new))
+AllRead-after kind old mid new name bytes same is = rw (is, same) (AllRead-done kind old name bytes)

@@ -6,6 +6,7 @@ mod begun;
 mod contents;
 mod fault;
 mod files;
+mod laws;
 mod mem_files;
 mod mem_sink;
 mod memory;
@@ -18,6 +19,7 @@ mod turns;
 
 pub use fault::FileFault;
 pub use files::Files;
+pub use laws::{done_is_kept, others_stay, runs_join, starts_kept};
 pub use mem_files::MemFiles;
 pub use mem_sink::MemSink;
 pub use memory::NoMemory;

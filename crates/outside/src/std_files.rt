@@ -1,4 +1,5 @@
 ghost use Rattle.std.specs.Prelude.{◌≡◌, ◌<◌, ◌≤◌, ◌+◌, ◌^◌, length, IfOk};
+ghost use Rattle.outside.specs.StdFiles.{failed_reads, failed_writes};
 
 use crate::tally::count_fault;
 use crate::turns::{read_front, write_whole};
@@ -19,7 +20,10 @@ pub struct StdFiles<'a, R> {
 
 impl<'a, R: rt::Files> StdFiles<'a, R> {
     /// The files of the runtime, with no fault.
-    pub fn new(rt: &'a R) -> StdFiles<'a, R> {
+    pub fn new(rt: &'a R) -> StdFiles<'a, R>
+        ensures reads { failed_reads result ≡ 0 }
+        ensures writes { failed_writes result ≡ 0 }
+    {
         StdFiles {
             rt,
             read_faults: 0,
@@ -30,6 +34,7 @@ impl<'a, R: rt::Files> StdFiles<'a, R> {
 
 impl<R: rt::Files + AllocGlobal> Files for StdFiles<'_, R> {
     ghost use Rattle.std.specs.Prelude.{None};
+    ghost use Rattle.outside.specs.StdFiles.{failed_reads, failed_writes};
 
     ghost contents = { λ _. None };
 
@@ -37,9 +42,9 @@ impl<R: rt::Files + AllocGlobal> Files for StdFiles<'_, R> {
 
     ghost writes = { λ _. None };
 
-    ghost read_faults = { λ s. s.read_faults };
+    ghost read_faults = { failed_reads };
 
-    ghost write_faults = { λ s. s.write_faults };
+    ghost write_faults = { failed_writes };
 
     fn read(&mut self, alloc: Global, name: &str, most: u64) -> Result<Vec<u8>, FileFault> {
         let answer = read_file(self.rt, alloc, name, most);
@@ -72,10 +77,7 @@ fn read_file<R: rt::Files>(
 }
 
 fn append_file<R: rt::Files>(rt: &R, name: &str, bytes: &[u8]) -> Result<(), FileFault> {
-    let mut file = OpenOptions::new()
-        .append(true)
-        .create(true)
-        .open(rt, name)?;
+    let mut file = OpenOptions::new().append(true).create(true).open(rt, name)?;
     write_whole(&mut file, bytes)?;
     file.sync_all()?;
     Ok(())
