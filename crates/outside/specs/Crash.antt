@@ -1,5 +1,5 @@
 -- What a crash may leave, from the contents at the start of a run and the writes begun in it.
-use Rattle.std.specs.Prelude.{◌≡◌, ◌⊎◌, ◌≤◌, ℕ, Bool, true, false, List, [], ◌∷◌, ◌++◌, length, Option, Some, MatchBool, bytes_eq}
+use Rattle.std.specs.Prelude.{◌≡◌, ◌⊎◌, ◌≤◌, ℕ, Bool, true, false, List, [], ◌∷◌, ◌++◌, length, Some, MatchBool, bytes_eq}
 use Rattle.outside.specs.Files.{Content, Write, WriteKind, Append, Replace, IsAppended, ReadsAt}
 
 -- What a crash leaves of the written name after a write, by what a read gave before it and gives after it: after one

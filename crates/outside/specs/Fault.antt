@@ -1,5 +1,5 @@
 -- Counts of faults.
-use Rattle.std.specs.Prelude.{◌≡◌, ◌≢◌, ◌<◌, ◌≤◌, ◌⊎◌, ◌-◌, ◌^◌, ℕ, Result, IsErrOf, Err}
+use Rattle.std.specs.Prelude.{◌≡◌, ◌<◌, ◌≤◌, ◌⊎◌, ◌-◌, ◌^◌, ℕ, Result, IsErrOf}
 use Rattle.outside.specs.declared.fault.FileFault.{FileFault}
 use Rattle.outside.specs.declared.fault.FileFault.TheVariants.{Failed}
 

@@ -1,5 +1,5 @@
 -- What the calls on files do to their contents, and what of them is begun.
-use Rattle.std.specs.Prelude.{◌≡◌, ◌⊎◌, ◌+◌, ℕ, Bool, true, false, List, [], ◌∷◌, ◌++◌, take, Option, Some, None, IsNone, IfSome, IsSomeAnd, MatchOption, MatchBool, Result, Ok, Err, bytes_eq}
+use Rattle.std.specs.Prelude.{◌≡◌, ◌⊎◌, ◌+◌, ℕ, Bool, true, false, List, [], ◌∷◌, ◌++◌, take, Option, Some, None, IsNone, IfSome, IsSomeAnd, MatchBool, Result, Ok, Err, bytes_eq}
 use Rattle.std.specs.Option.{option_map}
 use Rattle.outside.specs.declared.fault.FileFault.{FileFault}
 use Rattle.outside.specs.declared.fault.FileFault.TheVariants.{Failed, NoMemory}

@@ -1,4 +1,12 @@
+pub mod Begun
+pub mod Count
 pub mod Crash
+pub mod CrashLaws
 pub mod Fault
 pub mod Files
+pub mod MemFiles
+pub mod MemSink
 pub mod Sink
+pub mod StdFiles
+pub mod Whole
+pub mod Written

@@ -2,10 +2,27 @@
 //! can: what it holds, what was asked of it, and how often it failed.
 #![tactic(auto)]
 
+mod begun;
+mod contents;
 mod fault;
 mod files;
+mod laws;
+mod mem_files;
+mod mem_sink;
+mod memory;
+mod plan;
 mod sink;
+mod std_files;
+mod std_sink;
+mod tally;
+mod turns;
 
 pub use fault::FileFault;
 pub use files::Files;
+pub use laws::{done_is_kept, others_stay, runs_join, starts_kept};
+pub use mem_files::MemFiles;
+pub use mem_sink::MemSink;
+pub use memory::NoMemory;
 pub use sink::Sink;
+pub use std_files::StdFiles;
+pub use std_sink::StdSink;

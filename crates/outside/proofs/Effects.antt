@@ -1,0 +1,41 @@
+-- What a write to files in memory does, as every name is read.
+use Rattle.std.proofs.Common.{◌≡◌, ℕ, Bool, true, false, cond, List, [], Some, inl, inr, refl, sym, ap, ◌∙◌}
+use Rattle.std.specs.Bool.{MatchBool}
+use Rattle.std.specs.Ordering.{nat_cmp, eq_by_cmp}
+use Rattle.std.specs.Cmp.Lexicographic.{slice_cmp, nat_list_cmp_total}
+use Rattle.std.specs.Str.{bytes_eq}
+use Rattle.std.specs.FinMap as finite
+use Rattle.std.proofs.lemmas.Map.Text.{is_eq-slice_cmp}
+use Rattle.std.proofs.lemmas.Slice.Eq.{bytes_eq-Decides}
+use Rattle.outside.specs.Files.{Content, WriteKind, Append, Replace, ReadsAfter, ReadsAt, AllRead, write_of}
+use Rattle.outside.specs.MemFiles.{Contents}
+use Rattle.outside.specs.Written.{content_after}
+
+after_done : (kind : WriteKind) (old : Content) (bytes : List ℕ) → ReadsAfter kind true bytes old (Some (content_after kind old bytes))
+after_done Append old bytes = refl
+after_done Replace old bytes = refl
+
+-- at the written name and at any other
+done_at : (kind : WriteKind) (m : Contents) (name bytes q : List ℕ) (b : Bool) → bytes_eq q name ≡ b → MatchBool b (ReadsAfter kind true bytes (finite.get m q) (cond b (Some (content_after kind (finite.get m name) bytes)) (finite.get m q))) (cond b (Some (content_after kind (finite.get m name) bytes)) (finite.get m q) ≡ finite.get m q)
+done_at kind m name bytes q true is =
+    rw ((bytes_eq-Decides q name).0 is) (after_done kind (finite.get m name) bytes)
+done_at kind m name bytes q false is = refl
+
+-- a write that was done
+AllRead-done : (kind : WriteKind) (m : Contents) (name bytes : List ℕ) → AllRead (write_of kind name bytes true) (Some (finite.get m)) (Some (finite.get (finite.insert m name (content_after kind (finite.get m name) bytes))))
+AllRead-done kind m name bytes = λ q.
+    let now = finite.get-insert nat_list_cmp_total m name (content_after kind (finite.get m name) bytes) q ∙ ap (λ b. cond b (Some (content_after kind (finite.get m name) bytes)) (finite.get m q)) (is_eq-slice_cmp q name) in
+    rw now (done_at kind m name bytes q (bytes_eq q name) refl)
+
+nothing_at : (kind : WriteKind) (bytes : List ℕ) (old : Content) (b : Bool) → MatchBool b (ReadsAfter kind false bytes old old) (old ≡ old)
+nothing_at Append bytes old true = (0, inr (refl, refl))
+nothing_at Replace bytes old true = inl refl
+nothing_at kind bytes old false = refl
+
+-- a write that failed and did nothing
+pub AllRead-nothing : (kind : WriteKind) (f : List ℕ → Content) (name bytes : List ℕ) → AllRead (write_of kind name bytes false) (Some f) (Some f)
+AllRead-nothing kind f name bytes = λ q. nothing_at kind bytes (f q) (bytes_eq q name)
+
+-- the same, through what was known between
+pub AllRead-after : (kind : WriteKind) (old mid new : Contents) (name bytes : List ℕ) → mid ≡ old → new ≡ finite.insert mid name (content_after kind (finite.get mid name) bytes) → AllRead (write_of kind name bytes true) (Some (finite.get old)) (Some (finite.get new))
+AllRead-after kind old mid new name bytes same is = rw (is, same) (AllRead-done kind old name bytes)

@@ -1,0 +1,12 @@
+use Rattle.std.proofs.Common.{◌≡◌, sym, ap, ◌∙◌, Some, None}
+use Rattle.std.specs.Option.{option_map}
+use Rattle.outside.proofs.Stored.{get-contents}
+use Rattle.outside.proofs.contents.content.Goals as goal
+
+pub returns-in-Some : goal.returns-in-Some
+returns-in-Some c =
+    ap Some c.as_slice.ensures.value ∙ ap (option_map (λ v. v.items)) c.in-Some.ensures.value ∙ sym (get-contents c.args.files.now c.args.name.now)
+
+pub returns-in-None : goal.returns-in-None
+returns-in-None c =
+    ap (option_map (λ v. v.items)) c.in-None.ensures.value ∙ sym (get-contents c.args.files.now c.args.name.now)

@@ -1,0 +1,18 @@
+use Rattle.std.proofs.Common.{◌≡◌}
+use Rattle.std.specs.FinMap as finite
+use Rattle.outside.specs.Begun.{write_kind}
+use Rattle.outside.specs.Written.{content_after}
+use Rattle.outside.proofs.Effects.{AllRead-after}
+use Rattle.outside.proofs.mem_files.MemFiles.write.Goals as goal
+
+pub returns-clause-contents : goal.returns-clause-contents
+returns-clause-contents c =
+    let old = c.args.self.now.files in
+    let mid = c.begin_call.new.self.files in
+    let new = c.do_write.new.self.files in
+    let kind = write_kind c.args.kind in
+    let name = c.args.name.now in
+    let bytes = c.args.bytes.now in
+    let same : mid ≡ old = cc in
+    let is : new ≡ finite.insert mid name (content_after kind (finite.get mid name) bytes) = cc (c.in_ok-do_write.ensures.ok) in
+    AllRead-after kind old mid new name bytes same is

@@ -1,0 +1,7 @@
+-- What a loop over a writer leaves, where the writer tells what it holds.
+use Rattle.std.specs.Prelude.{ℕ, List, take, Option, Result, MatchResult}
+use Rattle.std.specs.Io.KnownBytes.{Appends}
+
+-- all the bytes at Ok, and some of them, in order, at Err
+abbrev pub WritesWhole : {T E : Type 0} → Option (List ℕ) → Option (List ℕ) → List ℕ → Result T E → Type 0
+WritesWhole old new bytes result = MatchResult result (λ _. Appends old new bytes) (λ _. (n : ℕ) × Appends old new (take n bytes))

@@ -1,0 +1,62 @@
+// The contents of files in memory, by name.
+ghost use Rattle.std.specs.Prelude.{◌≡◌, ◌<◌, ◌+◌, ◌^◌, take, IfOk, OnOk, OnErr};
+ghost use Rattle.std.specs.FinMap as finite;
+ghost use Rattle.std.specs.Option.{option_copied};
+ghost use Rattle.outside.specs.Begun.{contents_of, write_kind};
+ghost use Rattle.outside.specs.Written.{content_after};
+
+use crate::NoMemory;
+use crate::begun::Kind;
+use std::alloc::Global;
+use std::collections::BTreeMap;
+
+/// The content of a file, or that it is missing.
+pub fn content<'a>(files: &'a BTreeMap<String, Vec<u8>>, name: &str) -> Option<&'a [u8]>
+    ensures { option_copied result ≡ finite.get (contents_of files.now) name.now }
+{
+    match files.get(name) {
+        Some(bytes) => Some(bytes.as_slice()),
+        None => None,
+    }
+}
+
+/// Sets the content of a file.
+pub fn set_content(
+    alloc: Global,
+    files: &mut BTreeMap<String, Vec<u8>>,
+    name: &str,
+    bytes: Vec<u8>,
+) -> Result<(), NoMemory>
+    ensures ok { OnOk result (contents_of files.new ≡ finite.insert (contents_of files.old) name.now bytes.items) }
+    ensures err { OnErr result (contents_of files.new ≡ contents_of files.old) }
+{
+    let name = String::from_str(alloc, name)?;
+    files.insert(name, bytes)?;
+    Ok(())
+}
+
+/// What a write leaves in a file that has `old`, or is missing.
+pub fn written(
+    alloc: Global,
+    kind: Kind,
+    old: Option<&[u8]>,
+    bytes: &[u8],
+) -> Result<Vec<u8>, NoMemory>
+    ensures { IfOk result (λ v. v.items ≡ content_after (write_kind kind) (option_copied old.entry) bytes.now) }
+{
+    let mut content = Vec::new(alloc);
+    if let (Kind::Appended, Some(old)) = (kind, old) {
+        content.extend_from_slice(old)?;
+    }
+    content.extend_from_slice(bytes)?;
+    Ok(content)
+}
+
+/// The first `most + 1` bytes, or all where they are fewer.
+pub fn front(alloc: Global, whole: &[u8], most: u64) -> Result<Vec<u8>, NoMemory>
+    requires { most < 2 ^ 63 }
+    ensures { IfOk result (λ v. v.items ≡ take (most + 1) whole.now) }
+{
+    let end = whole.len().min(most as usize + 1);
+    Ok(whole[..end].to_vec(alloc)?)
+}

@@ -1,0 +1,289 @@
+ghost use Rattle.std.specs.Prelude.{Some, true, false, ◌≡◌, ◌⊎◌, ◌<◌, ◌≤◌, ◌+◌, ◌^◌, ◌↔◌, ◌++◌, [], ◌∷◌, length, take, Contains, IsTrue, OnOk, OnErr, IfOk, IfNone, IsSomeAnd, IsNone, IsErrOf, string_bytes};
+ghost use Rattle.std.specs.FinMap as finite;
+ghost use Rattle.std.specs.Option.{option_copied};
+ghost use Rattle.outside.specs.Count.{counted};
+ghost use Rattle.outside.specs.Fault.{Counts, Rose};
+ghost use Rattle.outside.specs.Files.{Append, Replace, ReadBegun, WriteBegun, Wrote, bytes_in, write_of};
+ghost use Rattle.outside.specs.Written.{content_after};
+ghost use Rattle.outside.specs.Begun.{write_kind};
+
+use crate::begun::{BegunRead, BegunWrite, Kind};
+use crate::contents::{content, front, set_content, written};
+use crate::plan::is_to_fail;
+use crate::{FileFault, Files, NoMemory};
+use std::alloc::Global;
+use std::collections::BTreeMap;
+use std::marker::Model;
+
+/// Files in memory, of which chosen calls fail. They stand in for real files in tests.
+#[derive(Drop)]
+pub struct MemFiles {
+    alloc: Global,
+    files: BTreeMap<String, Vec<u8>>,
+    calls: u64,
+    fails: Vec<u64>,
+    reads: Vec<BegunRead>,
+    writes: Vec<BegunWrite>,
+    read_faults: u64,
+    write_faults: u64,
+}
+
+impl Model for MemFiles {
+    ghost use Rattle.std.specs.Prelude.{map};
+    ghost use Rattle.outside.specs.MemFiles.{MemFilesState, state_code};
+
+    ghost Value = { MemFilesState };
+
+    ghost coded = { state_code };
+
+    ghost use Rattle.outside.specs.Begun.{contents_of, read_of, begun_write};
+
+    ghost view = { λ s. record {
+      files = contents_of s.files;
+      calls = s.calls;
+      fails = s.fails.items;
+      reads = map read_of s.reads.items;
+      writes = map begun_write s.writes.items;
+      read_faults = s.read_faults;
+      write_faults = s.write_faults;
+    } };
+}
+
+impl MemFiles {
+    /// No files. Calls of `read`, `append` and `replace` are counted together from 0, and those whose numbers are in
+    /// `fails` fail.
+    pub fn new(alloc: Global, fails: Vec<u64>) -> MemFiles
+        ensures { result ≡ record {
+          files = finite.empty;
+          calls = 0;
+          fails = fails.items;
+          reads = [];
+          writes = [];
+          read_faults = 0;
+          write_faults = 0;
+        } }
+    {
+        MemFiles {
+            alloc,
+            files: BTreeMap::new(alloc),
+            calls: 0,
+            fails,
+            reads: Vec::new(alloc),
+            writes: Vec::new(alloc),
+            read_faults: 0,
+            write_faults: 0,
+        }
+    }
+
+    /// Sets the content of a file. This is no counted call.
+    pub fn put(&mut self, name: &str, bytes: &[u8]) -> Result<(), NoMemory>
+        ensures ok { OnOk result (self.new ≡ record self.old { files = finite.insert self.old.files name.now bytes.now }) }
+        ensures err { OnErr result (self.new ≡ self.old) }
+    {
+        let bytes = bytes.to_vec(self.alloc)?;
+        set_content(self.alloc, &mut self.files, name, bytes)
+    }
+
+    /// The content of a file, or `None` where the name is missing.
+    pub fn get(&self, name: &str) -> Option<&[u8]>
+        ensures { option_copied result ≡ finite.get self.now.files name.now }
+    {
+        content(&self.files, name)
+    }
+
+    /// How many calls of `read`, `append` and `replace` were made together, those that failed among them.
+    pub fn calls(&self) -> u64
+        ensures { result ≡ self.now.calls }
+    {
+        self.calls
+    }
+
+    // Counts a call, and says whether it is to fail.
+    fn begin_call(&mut self) -> bool
+        ensures fails { IsTrue result ↔ Contains self.old.fails self.old.calls }
+        ensures state { self.new ≡ record self.old { calls = counted self.old.calls } }
+    {
+        let call = self.calls;
+        self.calls = call.saturating_add(1);
+        is_to_fail(&self.fails, call)
+    }
+
+    // Keeps a read that fails, and counts the fault.
+    fn fail_read(&mut self, name: &str, most: u64) -> Result<(), NoMemory>
+        ensures ok { OnOk result (self.new ≡ record self.old {
+          reads = self.old.reads ++ record { name = name.now; most = most } ∷ [];
+          read_faults = counted self.old.read_faults;
+        }) }
+        ensures err { OnErr result (self.new ≡ self.old) }
+        ensures rises { OnOk result ((self.old.read_faults ≤ self.new.read_faults) × Rose self.old.read_faults self.new.read_faults) }
+    {
+        self.reads.push(BegunRead::new(self.alloc, name, most)?)?;
+        self.read_faults = self.read_faults.saturating_add(1);
+        Ok(())
+    }
+
+    // Keeps a write that fails, and counts the fault.
+    fn fail_write(&mut self, kind: Kind, name: &str, bytes: &[u8]) -> Result<(), NoMemory>
+        ensures ok { OnOk result (self.new ≡ record self.old {
+          writes = self.old.writes ++ write_of (write_kind kind) name.now bytes.now false ∷ [];
+          write_faults = counted self.old.write_faults;
+        }) }
+        ensures err { OnErr result (self.new ≡ self.old) }
+        ensures rises { OnOk result ((self.old.write_faults ≤ self.new.write_faults) × Rose self.old.write_faults self.new.write_faults) }
+    {
+        let begun = BegunWrite::new(self.alloc, kind, name, bytes, false)?;
+        self.writes.push(begun)?;
+        self.write_faults = self.write_faults.saturating_add(1);
+        Ok(())
+    }
+
+    // Does a write, and keeps it.
+    fn do_write(&mut self, kind: Kind, name: &str, bytes: &[u8]) -> Result<(), NoMemory>
+        ensures ok { OnOk result (self.new ≡ record self.old {
+          files = finite.insert self.old.files name.now (content_after (write_kind kind) (finite.get self.old.files name.now) bytes.now);
+          writes = self.old.writes ++ write_of (write_kind kind) name.now bytes.now true ∷ [];
+        }) }
+        ensures err { OnErr result (self.new ≡ self.old) }
+    {
+        let next = written(self.alloc, kind, content(&self.files, name), bytes)?;
+        let begun = BegunWrite::new(self.alloc, kind, name, bytes, true)?;
+        self.writes.push(begun)?;
+        let stored = set_content(self.alloc, &mut self.files, name, next);
+        if stored.is_err() {
+            self.writes.pop();
+        }
+        stored
+    }
+
+    // A write that is counted, of either kind.
+    fn write(&mut self, kind: Kind, name: &str, bytes: &[u8]) -> Result<(), FileFault>
+        ensures fails { IsErrOf result FileFault.Failed → Contains self.old.fails self.old.calls }
+        ensures goes { OnOk result (¬ Contains self.old.fails self.old.calls) }
+        ensures ok { OnOk result (self.new ≡ record self.old {
+          files = finite.insert self.old.files name.now (content_after (write_kind kind) (finite.get self.old.files name.now) bytes.now);
+          calls = counted self.old.calls;
+          writes = self.old.writes ++ write_of (write_kind kind) name.now bytes.now true ∷ [];
+        }) }
+        ensures failed { IsErrOf result FileFault.Failed → self.new ≡ record self.old {
+          calls = counted self.old.calls;
+          writes = self.old.writes ++ write_of (write_kind kind) name.now bytes.now false ∷ [];
+          write_faults = counted self.old.write_faults;
+        } }
+        ensures memory { IsErrOf result FileFault.NoMemory → self.new ≡ record self.old { calls = counted self.old.calls } }
+        ensures contents { Wrote (write_kind kind) name.now bytes.now result (Some (finite.get self.old.files)) (Some (finite.get self.new.files)) }
+        ensures count { Counts self.old.write_faults self.new.write_faults result }
+    {
+        if self.begin_call() {
+            self.fail_write(kind, name, bytes)?;
+            return Err(FileFault::Failed);
+        }
+        self.do_write(kind, name, bytes)?;
+        Ok(())
+    }
+
+    // A read that is not to fail of itself.
+    fn do_read(&mut self, alloc: Global, name: &str, most: u64) -> Result<Vec<u8>, FileFault>
+        requires { most < 2 ^ 63 }
+        ensures bytes { IfOk result (λ v. IsSomeAnd (finite.get self.old.files name.now) (λ whole. v.items ≡ take (most + 1) whole)) }
+        ensures missing { IsErrOf result FileFault.Failed → IsNone (finite.get self.old.files name.now) }
+        ensures ok { OnOk result (self.new ≡ record self.old { reads = self.old.reads ++ record { name = name.now; most = most } ∷ [] }) }
+        ensures failed { IsErrOf result FileFault.Failed → self.new ≡ record self.old {
+          reads = self.old.reads ++ record { name = name.now; most = most } ∷ [];
+          read_faults = counted self.old.read_faults;
+        } }
+        ensures memory { IsErrOf result FileFault.NoMemory → self.new ≡ self.old }
+        ensures count { Counts self.old.read_faults self.new.read_faults result }
+    {
+        match content(&self.files, name) {
+            Some(whole) => {
+                let bytes = front(alloc, whole, most)?;
+                self.reads.push(BegunRead::new(self.alloc, name, most)?)?;
+                Ok(bytes)
+            }
+            None => {
+                self.fail_read(name, most)?;
+                Err(FileFault::Failed)
+            }
+        }
+    }
+}
+
+impl Files for MemFiles {
+    ghost use Rattle.std.specs.Prelude.{Some};
+    ghost use Rattle.std.specs.FinMap as finite;
+
+    ghost contents = { λ s. Some (finite.get s.files) };
+
+    ghost reads = { λ s. Some s.reads };
+
+    ghost writes = { λ s. Some s.writes };
+
+    ghost read_faults = { λ s. s.read_faults };
+
+    ghost write_faults = { λ s. s.write_faults };
+
+    fn read(&mut self, alloc: Global, name: &str, most: u64) -> Result<Vec<u8>, FileFault>
+        requires { most < 2 ^ 63 }
+        ensures fails { IsErrOf result FileFault.Failed
+            → Contains self.old.fails self.old.calls ⊎ IsNone (finite.get self.old.files name.now) }
+        ensures goes { OnOk result (¬ Contains self.old.fails self.old.calls) }
+        ensures bytes { IfOk result (λ v. IsSomeAnd (finite.get self.old.files name.now) (λ whole. v.items ≡ take (most + 1) whole)) }
+        ensures ok { OnOk result (self.new ≡ record self.old {
+          calls = counted self.old.calls;
+          reads = self.old.reads ++ record { name = name.now; most = most } ∷ [];
+        }) }
+        ensures failed { IsErrOf result FileFault.Failed → self.new ≡ record self.old {
+          calls = counted self.old.calls;
+          reads = self.old.reads ++ record { name = name.now; most = most } ∷ [];
+          read_faults = counted self.old.read_faults;
+        } }
+        ensures memory { IsErrOf result FileFault.NoMemory → self.new ≡ record self.old { calls = counted self.old.calls } }
+        ensures count { Counts self.old.read_faults self.new.read_faults result }
+    {
+        if self.begin_call() {
+            self.fail_read(name, most)?;
+            return Err(FileFault::Failed);
+        }
+        self.do_read(alloc, name, most)
+    }
+
+    fn append(&mut self, name: &str, bytes: &[u8]) -> Result<(), FileFault>
+        ensures fails { IsErrOf result FileFault.Failed → Contains self.old.fails self.old.calls }
+        ensures goes { OnOk result (¬ Contains self.old.fails self.old.calls) }
+        ensures ok { OnOk result (self.new ≡ record self.old {
+          files = finite.insert self.old.files name.now (bytes_in (finite.get self.old.files name.now) ++ bytes.now);
+          calls = counted self.old.calls;
+          writes = self.old.writes ++ write_of Append name.now bytes.now true ∷ [];
+        }) }
+        ensures failed { IsErrOf result FileFault.Failed → self.new ≡ record self.old {
+          calls = counted self.old.calls;
+          writes = self.old.writes ++ write_of Append name.now bytes.now false ∷ [];
+          write_faults = counted self.old.write_faults;
+        } }
+        ensures memory { IsErrOf result FileFault.NoMemory → self.new ≡ record self.old { calls = counted self.old.calls } }
+        ensures contents { Wrote Append name.now bytes.now result (Some (finite.get self.old.files)) (Some (finite.get self.new.files)) }
+        ensures count { Counts self.old.write_faults self.new.write_faults result }
+    {
+        self.write(Kind::Appended, name, bytes)
+    }
+
+    fn replace(&mut self, name: &str, bytes: &[u8]) -> Result<(), FileFault>
+        ensures fails { IsErrOf result FileFault.Failed → Contains self.old.fails self.old.calls }
+        ensures goes { OnOk result (¬ Contains self.old.fails self.old.calls) }
+        ensures ok { OnOk result (self.new ≡ record self.old {
+          files = finite.insert self.old.files name.now bytes.now;
+          calls = counted self.old.calls;
+          writes = self.old.writes ++ write_of Replace name.now bytes.now true ∷ [];
+        }) }
+        ensures failed { IsErrOf result FileFault.Failed → self.new ≡ record self.old {
+          calls = counted self.old.calls;
+          writes = self.old.writes ++ write_of Replace name.now bytes.now false ∷ [];
+          write_faults = counted self.old.write_faults;
+        } }
+        ensures memory { IsErrOf result FileFault.NoMemory → self.new ≡ record self.old { calls = counted self.old.calls } }
+        ensures contents { Wrote Replace name.now bytes.now result (Some (finite.get self.old.files)) (Some (finite.get self.new.files)) }
+        ensures count { Counts self.old.write_faults self.new.write_faults result }
+    {
+        self.write(Kind::Replaced, name, bytes)
+    }
+}
