@@ -3,7 +3,6 @@
 #![tactic(auto)]
 
 mod failure;
-mod lists;
 mod memory;
 mod number;
 mod push;
@@ -12,7 +11,6 @@ mod sums;
 mod tests;
 
 pub use failure::Failure;
-pub use lists::{Args, Bytes};
 pub use memory::NoMemory;
 pub use number::{Num, read_num, truth, write_num};
 pub use push::{push_bytes, push_int};

@@ -134,21 +134,3 @@ fn prints_failures(rt: HostRuntime) -> Result<(), Fail> {
     }
     Ok(())
 }
-
-#[test]
-fn keeps_bytes_and_arguments(rt: HostRuntime) -> Result<(), Fail> {
-    let alloc = rt.alloc();
-    let mut bytes = Bytes::from_slice(alloc, &[0x01])?;
-    bytes.push(0x02)?;
-    assert_eq!(rt; bytes.as_slice(), [0x01, 0x02].as_slice());
-    let mut args = Args::new(alloc);
-    args.push(bytes)?;
-    args.push(Bytes::from_vec([0x03].to_vec(alloc)?))?;
-    args.push(Bytes::new(alloc))?;
-    let lengths: [usize; 3] = [2, 1, 0];
-    assert_eq!(rt; args.as_slice().len(), lengths.len());
-    for (argument, len) in args.as_slice().iter().zip(&lengths) {
-        assert_eq!(rt; argument.as_slice().len(), *len);
-    }
-    Ok(())
-}

@@ -16,8 +16,8 @@ impl<T: Drop> From<AllocFailed<T>> for NoMemory {
     }
 }
 
-impl From<vm_num::NoMemory> for NoMemory {
-    fn from(_: vm_num::NoMemory) -> NoMemory {
+impl From<wire::NoMemory> for NoMemory {
+    fn from(_: wire::NoMemory) -> NoMemory {
         NoMemory
     }
 }

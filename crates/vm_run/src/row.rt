@@ -14,7 +14,8 @@ use vm_code::codes::{
     ADD, DROP, DUP, EQUAL, FALSE, LESSTHAN, NEGATIVE_ONE, NUMEQUAL, ONE, PUSHDATA4, SIXTEEN, SUB,
     VERIFY,
 };
-use vm_num::{Args, Bytes, Failure, add, read_num, sub, truth, write_num};
+use vm_num::{Failure, add, read_num, sub, truth, write_num};
+use wire::{Args, Bytes};
 
 /// What an instruction does where the limit allows it: how many items it takes off, those it puts on, the first of them
 /// deepest, and its base cost.
@@ -42,12 +43,12 @@ impl From<NoMemory> for StepFault {
     }
 }
 
-impl From<vm_num::NoMemory> for StepFault {
+impl From<wire::NoMemory> for StepFault {
     ghost use Rattle.vm_run.specs.declared.row.StepFault.TheVariants as faults;
 
     ghost from_gives = { λ _ e. e ≡ faults.NoMemory };
 
-    fn from(_: vm_num::NoMemory) -> StepFault {
+    fn from(_: wire::NoMemory) -> StepFault {
         StepFault::NoMemory
     }
 }

@@ -6,7 +6,7 @@ ghost use Rattle.vm_run.specs.Stack.{TopIs, TopTwoAre};
 use crate::NoMemory;
 use std::alloc::Global;
 use std::marker::Model;
-use vm_num::{Args, Bytes};
+use wire::{Args, Bytes};
 
 /// Items in order, seen with the top first.
 #[derive(Drop)]

@@ -9,7 +9,8 @@ use crate::machine::Machine;
 use crate::row::StepFault;
 use crate::stack::{Stack, cost_of};
 use std::alloc::Global;
-use vm_num::{Args, Failure, truth};
+use vm_num::{Failure, truth};
+use wire::Args;
 
 /// How a program ends on its arguments.
 #[derive(Clone, Copy, Debug, PartialEq, Eq)]

@@ -1,0 +1,24 @@
+-- The grammar of words.
+use Rattle.std.specs.Prelude.{◌≡◌, ℕ, List, [], ◌∷◌, Option, Some, None, if◌then◌else◌, bytes_eq, codes}
+use Rattle.std.specs.Option.{option_map}
+use Rattle.chain_top.specs.Word.{Word, decimal_within}
+
+-- a command with the words that it takes
+pub data Command : Type 0 where
+  -- the limit, the program and the arguments
+  Vm : (limit : ℕ) (program : Word) (args : List Word) → Command
+
+-- until predicates run in frames of their own, a limit is at most 100,000
+abbrev pub limit_most : ℕ
+limit_most = 100000
+
+-- `vm LIMIT PROGRAM [ARG]...`
+abbrev pub vm_words : List Word → Option Command
+vm_words (limit ∷ program ∷ args) = option_map (λ n. Vm n program args) (decimal_within limit_most limit)
+vm_words (limit ∷ []) = None
+vm_words [] = None
+
+-- the command that words say; there is none where they are outside the grammar
+abbrev pub command_of : List Word → Option Command
+command_of [] = None
+command_of (name ∷ words) = if bytes_eq name (codes "vm") then vm_words words else None

@@ -1,0 +1,6 @@
+pub mod Answer
+pub mod Command
+pub mod Line
+pub mod Reading
+pub mod Reply
+pub mod Word

@@ -1,0 +1,46 @@
+-- What a call of the program answers: the model.
+use Rattle.std.specs.Prelude.{◌≡◌, ℕ, List, [], ◌∷◌, ◌++◌, Option, Some, None, Ok, Err}
+use Rattle.outside.specs.Files.{Content, Read, Write}
+use Rattle.vm_num.specs.Item.{Item}
+use Rattle.vm_run.specs.declared.verdict.Verdict.{Verdict}
+use Rattle.vm_run.specs.Row.{Check, Nothing}
+use Rattle.vm_run.specs.Verdict.{HasVerdict}
+use Rattle.chain_top.specs.Word.{Word, hex_words}
+use Rattle.chain_top.specs.Command.{Command, Vm, command_of}
+use Rattle.chain_top.specs.Line.{usage_line, refused_hex, verdict_line}
+
+-- a printed line, and how many writes to files come before it
+pub record Line : Type 0 where
+  pub text : List ℕ
+  pub after : ℕ
+
+-- the status, the printed lines, the reads and the writes, each in order
+pub record Reply : Type 0 where
+  pub status : ℕ
+  pub lines : List Line
+  pub reads : List Read
+  pub writes : List Write
+
+-- a reply that touches no file and prints one line
+abbrev pub told : ℕ → List ℕ → Reply
+told status text = record { status = status; lines = record { text = text; after = 0 } ∷ []; reads = []; writes = [] }
+
+-- what the file holds that a word names, by the word's place
+abbrev pub Given : Type 0
+Given = ℕ → Content
+
+-- the replies to `vm`
+pub data VmReply (check : Check) (limit : ℕ) (program : Word) (args : List Word) (reply : Reply) : Type 0 where
+  -- the program or an argument is no hex word: the first of them
+  misfit : {place : ℕ} → hex_words 2 (program ∷ args) ≡ Err place → reply ≡ told 2 (refused_hex place) → VmReply check limit program args reply
+  -- the program is run with no context on its arguments
+  ran : {code : Item} {items : List Item} {verdict : Verdict} → hex_words 2 (program ∷ args) ≡ Ok (code ∷ items) → HasVerdict Nothing check code items limit verdict → reply ≡ told 0 (verdict_line verdict) → VmReply check limit program args reply
+
+-- the replies to a command, or to words that are none
+abbrev pub CommandReply : Check → Option Command → Given → Reply → Type 0
+CommandReply check None given reply = reply ≡ told 1 usage_line
+CommandReply check (Some (Vm limit program args)) given reply = VmReply check limit program args reply
+
+-- the replies to words
+abbrev pub IsReply : Check → List Word → Given → Reply → Type 0
+IsReply check words given reply = CommandReply check (command_of words) given reply

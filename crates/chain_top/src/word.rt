@@ -1,0 +1,56 @@
+// Readings of words.
+ghost use Rattle.std.specs.Prelude.{◌≡◌, ◌+◌, ◌<◌, ◌^◌, length, map, string_bytes, string_len};
+ghost use Rattle.chain_top.specs.Word.{is_decimal, decimal_within, hex_of, hex_words};
+ghost use Rattle.chain_top.specs.Reading.{ReadsHex, ReadsWords};
+
+use std::alloc::{AllocError, Global};
+use wire::{Args, Bytes};
+
+// The digits that a hex word has at most.
+const HEX_MOST: usize = 131_072;
+
+/// Why words are not read as bytes.
+pub enum HexFault {
+    /// The word at this place, the command being at 0, is no hex word.
+    Misfit(u64),
+    NoMemory,
+}
+
+/// The number of a decimal word of at most `most`.
+#[tactic(auto, unfolding(crate::specs::Word::decimal_within))]
+pub fn decimal(word: &str, most: u64) -> Option<u64>
+    ensures { result ≡ decimal_within most word.now }
+{
+    if !is_decimal(word.as_bytes()) {
+        return None;
+    }
+    match word.parse::<u64>() {
+        Ok(number) if number <= most => Some(number),
+        _ => None,
+    }
+}
+
+fn is_decimal(word: &[u8]) -> bool
+    ensures { result ≡ is_decimal word.now }
+{
+    match word {
+        [b'0'] => true,
+        [b'1'..=b'9', rest @ ..] => rest.iter().all(|d| d.is_ascii_digit()),
+        _ => false,
+    }
+}
+
+/// The bytes of a hex word, or that it is none.
+#[tactic(auto, unfolding(crate::specs::Word::hex_of))]
+pub fn hex_word(alloc: Global, word: &str) -> Result<Option<Bytes>, AllocError>
+    ensures { ReadsHex word.now result }
+{
+    if word.len() > HEX_MOST {
+        return Ok(None);
+    }
+    match hex::decode(alloc, word) {
+        Ok(bytes) => Ok(Some(Bytes::from_vec(bytes))),
+        Err(hex::FromHexError::OutOfMemory) => Err(AllocError),
+        Err(_) => Ok(None),
+    }
+}
