@@ -3,4 +3,5 @@ pub mod Command
 pub mod Line
 pub mod Reading
 pub mod Reply
+pub mod Seen
 pub mod Word

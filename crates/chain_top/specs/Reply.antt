@@ -29,12 +29,16 @@ told status text = record { status = status; lines = record { text = text; after
 abbrev pub Given : Type 0
 Given = ℕ → Content
 
+-- a line that tells the verdict on a program with no context, and its status
+abbrev pub TellsVerdict : Check → ℕ → Item → List Item → ℕ → List ℕ → Type 0
+TellsVerdict check limit code items status text = (verdict : Verdict) × HasVerdict Nothing check code items limit verdict × (status ≡ 0) × (text ≡ verdict_line verdict)
+
 -- the replies to `vm`
 pub data VmReply (check : Check) (limit : ℕ) (program : Word) (args : List Word) (reply : Reply) : Type 0 where
   -- the program or an argument is no hex word: the first of them
   misfit : {place : ℕ} → hex_words 2 (program ∷ args) ≡ Err place → reply ≡ told 2 (refused_hex place) → VmReply check limit program args reply
   -- the program is run with no context on its arguments
-  ran : {code : Item} {items : List Item} {verdict : Verdict} → hex_words 2 (program ∷ args) ≡ Ok (code ∷ items) → HasVerdict Nothing check code items limit verdict → reply ≡ told 0 (verdict_line verdict) → VmReply check limit program args reply
+  ran : {code : Item} {items : List Item} {status : ℕ} {text : List ℕ} → hex_words 2 (program ∷ args) ≡ Ok (code ∷ items) → TellsVerdict check limit code items status text → reply ≡ told status text → VmReply check limit program args reply
 
 -- the replies to a command, or to words that are none
 abbrev pub CommandReply : Check → Option Command → Given → Reply → Type 0

@@ -1,5 +1,54 @@
 //! The program as one call: its words, its files, what it prints, and the status that it ends with.
 #![tactic(auto)]
 
+ghost use Rattle.std.specs.Prelude.{map, string_bytes};
+ghost use Rattle.chain_top.specs.Answer.{world, Answers, HasCauses};
+ghost use Rattle.chain_top.specs.Reply.{IsReply};
+
+mod command;
+mod line;
+mod say;
+mod vm;
 mod word;
 
+use command::{Command, command_of};
+use keyed::{IdHash, SigCheck};
+use line::USAGE_LINE;
+use outside::{Files, Sink};
+use say::{NO_MEMORY, USAGE, say};
+use std::alloc::Global;
+use vm::vm_told;
+
+/// All that the program does: it reads its words, the command first, does the command over these files, prints to `out`,
+/// and gives the status to end with: 0 where the command was done, 1 where the words are outside the grammar, 2 where the
+/// command refused, 3 where a read failed, 4 where a write failed, 5 where memory was wanted.
+pub fn chain_main<F: Files, S: Sink, H: IdHash, C: SigCheck>(
+    alloc: Global,
+    words: &[String],
+    files: &mut F,
+    out: &mut S,
+    hash: &H,
+    sigs: &C,
+) -> u8
+    // What is printed, read and written is the model's reply, or a front of it where the status is 3, 4 or 5.
+    ensures answers { Answers (IsReply (C.good_of sigs.now) (map string_bytes words.now)) (map string_bytes words.now)
+        (world S.held S.faults F.contents F.reads F.writes F.read_faults F.write_faults out.old files.old)
+        (world S.held S.faults F.contents F.reads F.writes F.read_faults F.write_faults out.new files.new) result }
+
+    // When the status is 3, 4 or 5.
+    ensures causes { HasCauses
+        (world S.held S.faults F.contents F.reads F.writes F.read_faults F.write_faults out.old files.old)
+        (world S.held S.faults F.contents F.reads F.writes F.read_faults F.write_faults out.new files.new) result }
+{
+    match command_of(words) {
+        None => say(out, USAGE, USAGE_LINE),
+        Some(Command::Vm {
+            limit,
+            program,
+            args,
+        }) => match vm_told(alloc, limit, program.as_str(), args) {
+            Ok(told) => say(out, told.status, told.line.as_bytes()),
+            Err(_) => NO_MEMORY,
+        },
+    }
+}

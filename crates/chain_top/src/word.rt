@@ -1,5 +1,7 @@
 // Readings of words.
 ghost use Rattle.std.specs.Prelude.{◌≡◌, ◌+◌, ◌<◌, ◌^◌, length, map, string_bytes, string_len};
+ghost use Rattle.std.specs.List.{list_all};
+ghost use Rattle.std.specs.Char.{is_ascii_digit};
 ghost use Rattle.chain_top.specs.Word.{is_decimal, decimal_within, hex_of, hex_words};
 ghost use Rattle.chain_top.specs.Reading.{ReadsHex, ReadsWords};
 
@@ -35,9 +37,15 @@ fn is_decimal(word: &[u8]) -> bool
 {
     match word {
         [b'0'] => true,
-        [b'1'..=b'9', rest @ ..] => rest.iter().all(|d| d.is_ascii_digit()),
+        [b'1'..=b'9', rest @ ..] => are_digits(rest),
         _ => false,
     }
+}
+
+fn are_digits(word: &[u8]) -> bool
+    ensures { result ≡ list_all is_ascii_digit word.now }
+{
+    word.iter().all(|d| d.is_ascii_digit())
 }
 
 /// The bytes of a hex word, or that it is none.
@@ -53,4 +61,20 @@ pub fn hex_word(alloc: Global, word: &str) -> Result<Option<Bytes>, AllocError>
         Err(hex::FromHexError::OutOfMemory) => Err(AllocError),
         Err(_) => Ok(None),
     }
+}
+
+/// The bytes of hex words, the first of them at this place, or the place of the first that is no hex word.
+pub fn hex_words(alloc: Global, words: &[String], place: u64) -> Result<Args, HexFault>
+    requires { place + length words.now < 2 ^ 64 }
+    ensures { ReadsWords place (map string_bytes words.now) result }
+{
+    let mut items = Args::new(alloc);
+    for (k, word) in words.iter().enumerate() {
+        match hex_word(alloc, word.as_str()) {
+            Ok(Some(bytes)) => items.push(bytes).map_err(|_| HexFault::NoMemory)?,
+            Ok(None) => return Err(HexFault::Misfit(place + k as u64)),
+            Err(AllocError) => return Err(HexFault::NoMemory),
+        }
+    }
+    Ok(items)
 }

@@ -9,4 +9,4 @@ mod stack;
 mod verdict;
 
 pub use memory::NoMemory;
-pub use verdict::Verdict;
+pub use verdict::{Verdict, verify};

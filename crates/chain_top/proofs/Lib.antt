@@ -1,0 +1,3 @@
+pub mod HexWords
+pub mod VmReplies
+pub mod Words

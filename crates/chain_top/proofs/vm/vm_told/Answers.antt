@@ -1,0 +1,20 @@
+use Rattle.std.proofs.Common.{Some, sym, ◌∙◌, ap, map, string_bytes}
+use Rattle.chain_top.specs.Reply.{told}
+use Rattle.chain_top.proofs.VmReplies.{for_ok, no_program, no_argument, was_run}
+use Rattle.chain_top.proofs.vm.vm_told.Goals as goal
+
+pub returns-in-None : goal.returns-in-None
+returns-in-None c =
+    let args = map string_bytes c.args.args.now in
+    for_ok c.refused.result (λ t is check. no_program check c.args.limit c.args.program.now args (told t.status (string_bytes t.line)) (sym c.in-None.is ∙ c.in_ok-hex_word.ensures) is) c.refused.ensures
+
+pub returns-in-Ok : goal.returns-in-Ok
+returns-in-Ok c =
+    let args = map string_bytes c.args.args.now in
+    for_ok c.ran.result (λ t tells check. was_run check c.args.limit c.args.program.now args _ _ t.status (string_bytes t.line) (ap Some c.as_slice.ensures ∙ sym c.in-Some.is ∙ c.in_ok-hex_word.ensures) c.in-Ok.ensures (tells check)) c.ran.ensures
+
+pub returns-in-Err-Misfit : goal.returns-in-Err-Misfit
+returns-in-Err-Misfit c =
+    let args = map string_bytes c.args.args.now in
+    let misfit = rw c.in-Err-Misfit.field-0-is at c.in-Err-Misfit.ensures in
+    for_ok c.refused-in-Err-Misfit.result (λ t is check. no_argument check c.args.limit c.args.program.now args (told t.status (string_bytes t.line)) _ c.in-Err-Misfit.place (sym c.in-Some.is ∙ c.in_ok-hex_word.ensures) misfit is) c.refused-in-Err-Misfit.ensures

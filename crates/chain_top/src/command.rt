@@ -1,0 +1,46 @@
+// The grammar of words.
+ghost use Rattle.std.specs.Prelude.{◌≡◌, ◌+◌, ◌<◌, ◌^◌, length, map, string_bytes, IfSome};
+ghost use Rattle.chain_top.specs.Command.{command_of, vm_words};
+ghost use Rattle.chain_top.specs.Seen.{seen_command};
+
+use crate::word::decimal;
+
+// Until predicates run in frames of their own, a limit is at most 100,000.
+const LIMIT_MOST: u64 = 100_000;
+
+/// A command with the words that it takes.
+#[derive(Clone, Copy)]
+pub enum Command<'a> {
+    /// The limit, and the program with its arguments behind it.
+    Vm {
+        limit: u64,
+        program: &'a String,
+        args: &'a [String],
+    },
+}
+
+/// The command that words say, or none where they are outside the grammar.
+pub fn command_of(words: &[String]) -> Option<Command<'_>>
+    ensures { seen_command result ≡ command_of (map string_bytes words.now) }
+{
+    match words {
+        [name, rest @ ..] if name.as_str() == "vm" => vm_words(rest),
+        _ => None,
+    }
+}
+
+fn vm_words(words: &[String]) -> Option<Command<'_>>
+    ensures { seen_command result ≡ vm_words (map string_bytes words.now) }
+{
+    match words {
+        [limit, program, args @ ..] => {
+            let limit = decimal(limit.as_str(), LIMIT_MOST)?;
+            Some(Command::Vm {
+                limit,
+                program,
+                args,
+            })
+        }
+        _ => None,
+    }
+}

@@ -1,0 +1,23 @@
+// Printed lines, each with its newline.
+ghost use Rattle.std.specs.Prelude.{◌≡◌, IfOk, string_bytes};
+ghost use Rattle.chain_top.specs.Line.{refused_hex, verdict_line};
+
+use std::alloc::{AllocError, Global};
+use vm_run::Verdict;
+
+pub const USAGE_LINE: &[u8] = b"usage\n";
+
+pub fn refused_hex(alloc: Global, place: u64) -> Result<String, AllocError>
+    ensures { IfOk result (λ line. string_bytes line ≡ refused_hex place) }
+{
+    format!(in alloc; "refused hex {place}\n")
+}
+
+pub fn verdict_line(alloc: Global, verdict: &Verdict) -> Result<String, AllocError>
+    ensures { IfOk result (λ line. string_bytes line ≡ verdict_line verdict.now) }
+{
+    match *verdict {
+        Verdict::Succeeded { left } => format!(in alloc; "succeeded left {left}\n"),
+        Verdict::Failed { kind, at } => format!(in alloc; "failed {kind} at {at}\n"),
+    }
+}
