@@ -6,7 +6,9 @@ mod machine;
 mod memory;
 mod row;
 mod stack;
+#[cfg(test)]
+mod tests;
 mod verdict;
 
 pub use memory::NoMemory;
-pub use verdict::Verdict;
+pub use verdict::{Verdict, verify};
