@@ -7,6 +7,8 @@ ghost use Rattle.vm_code.specs.Seen.{Reads};
 
 pub mod codes;
 mod data;
+#[cfg(test)]
+mod tests;
 
 use codes::{
     ADD, DATA_MAX, DATA_MIN, DROP, DUP, EQUAL, FALSE, LESSTHAN, NEGATIVE_ONE, NUMEQUAL, ONE,

@@ -1,5 +1,5 @@
 -- A list seen from its end.
-use Rattle.std.proofs.Common.{◌≡◌, ℕ, ◌-◌, ◌<◌, ◌≤◌, List, [], ◌∷◌, ◌++◌, length, take, drop, reverse, refl, sym, ◌∙◌, ap, ⊎_elim, arith, length-drop, sum_by}
+use Rattle.std.proofs.Common.{◌≡◌, ℕ, ◌-◌, ◌<◌, ◌≤◌, List, ◌++◌, length, take, drop, reverse, sym, ◌∙◌, ap, ⊎_elim, arith, length-drop, sum_by}
 use Rattle.std.proofs.lemmas.List.{reverse-append, take_at, drop_at, drop_all, take_all, length-reverse, take-append-drop}
 use Rattle.std.proofs.lemmas.List.Sorted.{IsPermutation-reverse, sum_by-IsPermutation}
 use Rattle.std.proofs.lemmas.Bool.{cases_lt}

@@ -1,5 +1,5 @@
 -- What every line of the table keeps: it takes items from the top, and its base cost is at least 1.
-use Rattle.std.proofs.Common.{◌≡◌, ℕ, ◌+◌, ◌-◌, ◌≤◌, Bool, true, false, cond, List, [], ◌∷◌, length, take, Option, Some, None, ℤ, pos, negsuc, refl, arith}
+use Rattle.std.proofs.Common.{◌≡◌, ℕ, ◌-◌, ◌≤◌, Bool, true, false, cond, List, [], ◌∷◌, length, take, Option, Some, None, ℤ, pos, negsuc, refl, arith}
 use Rattle.std.specs.List.{AllByRecursion}
 use Rattle.vm_num.specs.Item.{Item, num, num_bytes, is_true}
 use Rattle.vm_code.specs.Instruction.{Decoded}

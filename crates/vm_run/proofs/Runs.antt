@@ -1,6 +1,5 @@
 -- Laws of runs.
-use Rattle.std.proofs.Common.{◌≡◌, ℕ, ◌+◌, ◌-◌, ◌<◌, ◌≤◌, List, [], ◌∷◌, ◌++◌, length, drop, take, reverse, refl, sym, ◌∙◌, ap, subst, arith, Bool, true, false, cond, Result, Ok, Err, IfOk, ◌⊎◌, inl, inr}
-use Rattle.std.proofs.lemmas.Bool.Decides.{nat_tests}
+use Rattle.std.proofs.Common.{◌≡◌, ℕ, ◌+◌, ◌-◌, ◌<◌, ◌≤◌, List, [], ◌++◌, length, drop, take, reverse, refl, sym, ◌∙◌, ap, subst, arith, Result, Ok, Err, IfOk, inl, inr}
 use Rattle.std.proofs.lemmas.Bool.{cases_lt}
 use Rattle.std.proofs.lemmas.List.Sums.{sum_by-append, sum_by-take-drop}
 use Rattle.vm_num.specs.Item.{Item, cost, total_cost}
@@ -9,7 +8,7 @@ use Rattle.vm_run.specs.Row.{Context, Check, Row, Faults, Does, Effect, row}
 use Rattle.vm_run.specs.Run.{Outcome, Ended, FailedAt, one_more, count_of, Move, Stops, Goes, paid, row_move, instruction_move, move, Run, at_end, fails, goes_on}
 use Rattle.vm_num.specs.declared.failure.Failure.{Failure}
 use Rattle.vm_run.specs.declared.verdict.Verdict.{Verdict}
-use Rattle.vm_run.specs.declared.verdict.Verdict.TheVariants.{Succeeded, Failed}
+use Rattle.vm_run.specs.declared.verdict.Verdict.TheVariants.{Failed}
 use Rattle.vm_run.specs.Verdict.{verdict_of, VerdictFrom, RunOn, HasVerdict}
 use Rattle.vm_run.specs.Verdict as verdicts
 use Rattle.vm_run.proofs.Rows.{TakesFrom, row-takes}

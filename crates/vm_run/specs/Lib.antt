@@ -1,5 +1,6 @@
 pub mod Gives
 pub mod Operands
+pub mod Pushes
 pub mod Row
 pub mod Run
 pub mod Stack

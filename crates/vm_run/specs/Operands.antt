@@ -1,5 +1,5 @@
 -- What the code answers for an instruction's operands.
-use Rattle.std.specs.Prelude.{◌≡◌, ◌<◌, ◌⊎◌, ℕ, ℤ, List, [], ◌∷◌, length, drop, Result, Ok, Err, Option, Some, None}
+use Rattle.std.specs.Prelude.{◌≡◌, ◌<◌, ◌⊎◌, ℕ, ℤ, List, [], ◌∷◌, length, drop, Result, Ok, Err, Some, None}
 use Rattle.std.specs.Borrow.{Bor}
 use Rattle.vm_num.specs.Item.{Item, num}
 use Rattle.vm_num.specs.declared.failure.Failure.TheVariants.{Underflow, BadNumber}

@@ -1,5 +1,5 @@
 -- What each instruction does: the code table.
-use Rattle.std.specs.Prelude.{◌≡◌, ℕ, ◌+◌, ◌-◌, ◌==◌, ◌&&◌, Bool, true, false, List, [], ◌∷◌, length, min, Option, Some, None, if◌then◌else◌, nat_le, bytes_eq, ℤ, pos, negsuc, int_lt}
+use Rattle.std.specs.Prelude.{ℕ, ◌+◌, ◌-◌, ◌==◌, ◌&&◌, Bool, true, false, List, [], ◌∷◌, length, min, Option, Some, None, if◌then◌else◌, nat_le, bytes_eq, ℤ, pos, negsuc, int_lt}
 use Rattle.std.specs.Ordering.{int_eq}
 use Rattle.std.specs.Option.{option_map}
 use Rattle.vm_num.specs.Item.{Item, num, num_bytes, is_true, sum_of, difference_of}

@@ -1,5 +1,5 @@
 -- Runs of a program.
-use Rattle.std.specs.Prelude.{◌≡◌, ℕ, ◌+◌, ◌-◌, ◌<◌, List, [], ◌∷◌, ◌++◌, length, drop, Result, Ok, Err, if◌then◌else◌, nat_lt}
+use Rattle.std.specs.Prelude.{◌≡◌, ℕ, ◌+◌, ◌-◌, ◌<◌, List, ◌++◌, length, drop, Result, Ok, Err, if◌then◌else◌, nat_lt}
 use Rattle.vm_num.specs.Item.{Item, total_cost}
 use Rattle.vm_num.specs.declared.failure.Failure.{Failure}
 use Rattle.vm_num.specs.declared.failure.Failure.TheVariants as failures

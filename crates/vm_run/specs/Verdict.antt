@@ -1,5 +1,5 @@
 -- The verdict on a program and its arguments.
-use Rattle.std.specs.Prelude.{◌≡◌, ℕ, ◌-◌, ◌<◌, ◌≤◌, Bool, true, false, List, [], ◌∷◌, length, reverse, if◌then◌else◌}
+use Rattle.std.specs.Prelude.{◌≡◌, ℕ, ◌-◌, ◌<◌, ◌≤◌, Bool, false, List, [], ◌∷◌, length, reverse, if◌then◌else◌}
 use Rattle.vm_num.specs.Item.{Item, total_cost, is_true}
 use Rattle.vm_num.specs.declared.failure.Failure.TheVariants.{RunLimit, FalseResult}
 use Rattle.vm_run.specs.declared.verdict.Verdict.{Verdict}

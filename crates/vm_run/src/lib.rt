@@ -6,6 +6,8 @@ mod machine;
 mod memory;
 mod row;
 mod stack;
+#[cfg(test)]
+mod tests;
 mod verdict;
 
 pub use memory::NoMemory;

@@ -1,4 +1,4 @@
-use Rattle.std.proofs.Common.{[], ◌∷◌, refl, rules}
+use Rattle.std.proofs.Common.{[], ◌∷◌, rules}
 use Rattle.vm_run.proofs.row.verify_row.Goals as goal
 
 pub returns : goal.returns

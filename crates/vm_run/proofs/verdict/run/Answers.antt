@@ -10,9 +10,9 @@ loop-at-preserved c = record {
   within = c.in-Ok.ensures.place.1;
   small = c.in-Ok.ensures.small;
   rest = λ context check verdict from.
-    let moved = c.in-Ok.ensures.moves context check in
-    c.loop-at.invariant.rest context check verdict
-    (further context check c.args.program.now c.loop-at.at c.loop-at.machine.stack c.loop-at.machine.left c.in-Ok.next c.step.new.self.stack c.step.new.self.left moved.0 verdict c.loop-at-test.true moved.1 from);
+      let moved = c.in-Ok.ensures.moves context check in
+      c.loop-at.invariant.rest context check verdict
+      (further context check c.args.program.now c.loop-at.at c.loop-at.machine.stack c.loop-at.machine.left c.in-Ok.next c.step.new.self.stack c.step.new.self.left moved.0 verdict c.loop-at-test.true moved.1 from);
 }
 
 pub returns-in-Err-Failed : goal.returns-in-Err-Failed

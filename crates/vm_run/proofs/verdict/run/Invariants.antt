@@ -1,4 +1,4 @@
-use Rattle.std.proofs.Common.{ℕ, ◌+◌, ◌-◌, ◌<◌, ◌≤◌, ◌^◌, length}
+use Rattle.std.proofs.Common.{◌+◌, ◌-◌, ◌<◌, ◌≤◌, ◌^◌, length}
 use Rattle.vm_num.specs.Item.{total_cost}
 use Rattle.vm_run.specs.Row.{Context, Check}
 use Rattle.vm_run.specs.Verdict.{VerdictFrom}

@@ -1,6 +1,6 @@
-use Rattle.std.proofs.Common.{◌≡◌, ◌+◌, ◌<◌, ◌≤◌, ◌^◌, reverse, ap, ◌∙◌, arith}
+use Rattle.std.proofs.Common.{◌≡◌, ◌≤◌, reverse, ap, ◌∙◌, arith}
 use Rattle.vm_num.specs.Item.{cost, total_cost}
-use Rattle.vm_run.specs.Row.{Check, Nothing}
+use Rattle.vm_run.specs.Row.{Nothing}
 use Rattle.vm_run.proofs.Reversed.{sum_by-reverse}
 use Rattle.vm_run.proofs.Runs.{bounded, verdict_on, for_ok}
 use Rattle.vm_run.proofs.verdict.verify.Goals as goal
@@ -21,7 +21,7 @@ returns-clause-verdict c =
     let args' : total_cost c.as_slice.result.now ≡ total_cost c.args.args.now = ap total_cost c.as_slice.ensures in
     let covers : total_cost c.args.args.now ≤ c.args.limit = omega arith in
     for_ok c.run.result (λ verdict says check.
-      verdict_on Nothing check c.args.program.now c.args.args.now c.args.limit _ _ verdict covers (omega arith) (c.in_ok-of.ensures ∙ ap reverse c.as_slice-2.ensures) (says Nothing check)) c.run.ensures
+    verdict_on Nothing check c.args.program.now c.args.args.now c.args.limit _ _ verdict covers (omega arith) (c.in_ok-of.ensures ∙ ap reverse c.as_slice-2.ensures) (says Nothing check)) c.run.ensures
 
 pub returns-clause-bounded : goal.returns-clause-bounded
 returns-clause-bounded c = λ covers check outcome run. bounded Nothing check c.args.program.now c.args.args.now c.args.limit outcome covers run

@@ -1,8 +1,6 @@
-use Rattle.std.proofs.Common.{◌≡◌, ◌∙◌, [], length, take, reverse, sym, ap, subst}
+use Rattle.std.proofs.Common.{◌≡◌, ◌∙◌, [], take, reverse, ap, subst}
 use Rattle.vm_code.specs.Seen.{seen}
-use Rattle.vm_run.specs.Gives.{Moves}
-use Rattle.vm_run.specs.Row.{Row, does, row}
-use Rattle.vm_run.specs.Run.{row_move}
+use Rattle.vm_run.specs.Row.{does}
 use Rattle.vm_run.proofs.Rows.{TakesFrom, row-takes}
 use Rattle.vm_run.proofs.machine.Machine.complete.Goals as goal
 

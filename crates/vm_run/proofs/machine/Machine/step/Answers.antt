@@ -1,4 +1,4 @@
-use Rattle.std.proofs.Common.{◌≡◌, [], length}
+use Rattle.std.proofs.Common.{[], length}
 use Rattle.vm_run.proofs.Moves.{move-read}
 use Rattle.vm_run.proofs.machine.Machine.step.Goals as goal
 

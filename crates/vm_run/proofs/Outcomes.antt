@@ -1,0 +1,50 @@
+-- Every run has an outcome, and every program a verdict.
+use Rattle.std.proofs.Common.{◌≡◌, ℕ, zero, suc, ◌+◌, ◌-◌, ◌<◌, ◌≤◌, List, [], length, reverse, refl, sym, ◌∙◌, ap, subst, inl, inr, arith}
+use Rattle.std.proofs.lemmas.Bool.{cases_lt}
+use Rattle.vm_num.specs.Item.{Item, total_cost}
+use Rattle.vm_run.specs.Row.{Context, Check}
+use Rattle.vm_run.specs.Run.{Outcome, Ended, FailedAt, one_more, Move, Stops, Goes, move, Run, at_end, fails, goes_on}
+use Rattle.vm_num.specs.declared.failure.Failure.TheVariants.{RunLimit}
+use Rattle.vm_run.specs.declared.verdict.Verdict.{Verdict}
+use Rattle.vm_run.specs.declared.verdict.Verdict.TheVariants.{Failed}
+use Rattle.vm_run.specs.Verdict.{verdict_of, HasVerdict, not_covered, covered}
+use Rattle.vm_run.proofs.Places.{Leads, move-leads}
+use Rattle.vm_run.proofs.Runs as runs
+use Rattle.vm_run.proofs.Runs.{Keeps, move-keeps}
+
+module _ (context : Context) (check : Check) (program : List ℕ) where
+  -- from a place, with these items and this limit left
+  abbrev Some : ℕ → List Item → List Item → ℕ → Type 0
+  Some place items alt limit = (outcome : Outcome) × Run context check program place items alt limit outcome
+
+  -- from every place, where the limit and the items come to less than n together
+  abbrev Below : ℕ → Type 0
+  Below n = (place : ℕ) (items alt : List Item) (limit : ℕ) → place ≤ length program → limit + total_cost items < n → Some place items alt limit
+
+  from_move : (n place : ℕ) (items alt : List Item) (limit : ℕ) → Below n → place < length program → limit + total_cost items < suc n → (m : Move) → move context check program place items alt limit ≡ m → Keeps items alt limit m → Leads (length program) m → Some place items alt limit
+  from_move n place items alt limit below before less (Stops kind) is keeps leads = (FailedAt kind place 0, fails before is)
+  from_move n place items alt limit below before less (Goes next items' alt' left base) is keeps leads =
+      let rest = below next items' alt' left leads (omega (arith, keeps.1, keeps.2)) in
+      (one_more base rest.0, goes_on before is rest.1 refl)
+
+  below_all : (n : ℕ) → Below n
+  below_all zero place items alt limit within less = absurd (omega arith)
+  below_all (suc n) place items alt limit within less = elim (cases_lt place (length program)) [
+    | inl before ↦ from_move n place items alt limit (below_all n) before less _ refl (move-keeps context check program place items alt limit) (move-leads context check program place items alt limit before)
+    | inr end ↦ (Ended limit items alt 0 0 0, at_end (omega arith))
+  ]
+
+  pub some_outcome : (place : ℕ) (items alt : List Item) (limit : ℕ) → place ≤ length program → Some place items alt limit
+  some_outcome place items alt limit within = below_all (suc (limit + total_cost items)) place items alt limit within (omega arith)
+
+  pub some_verdict : (args : List Item) (limit : ℕ) → (verdict : Verdict) × HasVerdict context check program args limit verdict
+  some_verdict args limit = elim (cases_lt limit (total_cost args)) [
+    | inl short ↦ (Failed RunLimit 0, not_covered short refl)
+    | inr covers ↦ let run = some_outcome 0 (reverse args) [] (limit - total_cost args) (omega arith) in (verdict_of (length program) run.0, covered covers (run.0, run.1, refl))
+  ]
+
+  pub one_verdict : (args : List Item) (limit : ℕ) (a b : Verdict) → HasVerdict context check program args limit a → HasVerdict context check program args limit b → a ≡ b
+  one_verdict args limit a b (not_covered short is) (not_covered again same) = is ∙ sym same
+  one_verdict args limit a b (not_covered short is) (covered covers run) = absurd (omega arith)
+  one_verdict args limit a b (covered covers run) (not_covered short is) = absurd (omega arith)
+  one_verdict args limit a b (covered covers run) (covered again other) = run.2 ∙ ap (verdict_of (length program)) (runs.one_outcome run.1 other.1) ∙ sym other.2
