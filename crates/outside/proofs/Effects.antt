@@ -9,7 +9,7 @@ use Rattle.std.proofs.lemmas.Map.Text.{is_eq-slice_cmp}
 use Rattle.std.proofs.lemmas.Slice.Eq.{bytes_eq-Decides}
 use Rattle.outside.specs.Files.{Content, WriteKind, Append, Replace, ReadsAfter, ReadsAt, AllRead, write_of}
 use Rattle.outside.specs.MemFiles.{Contents}
-use Rattle.outside.specs.Written.{content_after}
+use Rattle.outside.specs.MemCalls.{content_after}
 
 after_done : (kind : WriteKind) (old : Content) (bytes : List ℕ) → ReadsAfter kind true bytes old (Some (content_after kind old bytes))
 after_done Append old bytes = refl
