@@ -135,7 +135,7 @@ impl MemFiles {
         ensures ok { OnOk result (self.new ≡ with_write (write_kind kind) name.now bytes.now self.old) }
         ensures err { OnErr result (self.new ≡ self.old) }
     {
-        let next = written(self.alloc, kind, content(&self.files, name), bytes)?;
+        let next = written(self.alloc, kind, self.get(name), bytes)?;
         let begun = BegunWrite::new(self.alloc, kind, name, bytes, true)?;
         self.writes.push(begun)?;
         let stored = set_content(self.alloc, &mut self.files, name, next);
@@ -173,7 +173,7 @@ impl MemFiles {
         ensures memory { IsErrOf result FileFault.NoMemory → self.new ≡ self.old }
         ensures count { Counts self.old.read_faults self.new.read_faults result }
     {
-        match content(&self.files, name) {
+        match self.get(name) {
             Some(whole) => {
                 let bytes = front(alloc, whole, most)?;
                 self.reads.push(BegunRead::new(self.alloc, name, most)?)?;
