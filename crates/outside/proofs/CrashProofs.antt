@@ -5,8 +5,8 @@ use Rattle.std.specs.Str.{bytes_eq}
 use Rattle.std.specs.List.{All}
 use Rattle.std.proofs.lemmas.Bool.{false≢true}
 use Rattle.std.proofs.lemmas.List.Elements.{All-head, All-tail}
-use Rattle.outside.specs.Files.{Content, Write, WriteKind, Append, Replace, ReadsAfter, ReadsAt}
-use Rattle.outside.specs.Crash.{State, Leads, LeftAfter, StepAt, MayLeave}
+use Rattle.outside.specs.Files.{Content, Write, WriteKind, Append, Replace, ReadsAfter}
+use Rattle.outside.specs.Crash.{State, Leads, LeftAfter}
 use Rattle.outside.specs.CrashLaws.{RunsJoin, DoneIsKept, OthersStay, StartsKept}
 
 parted : (name : List ℕ) (ws vs : List Write) (old new : State) → Leads name (ws ++ vs) old new → (mid : State) × Leads name ws old mid × Leads name vs mid new

@@ -1,15 +1,14 @@
 -- What a write to files in memory does, as every name is read.
-use Rattle.std.proofs.Common.{◌≡◌, ℕ, Bool, true, false, cond, List, [], Some, inl, inr, refl, sym, ap, ◌∙◌}
+use Rattle.std.proofs.Common.{◌≡◌, ℕ, Bool, true, false, cond, List, Some, inl, inr, refl, ap, ◌∙◌}
 use Rattle.std.specs.Bool.{MatchBool}
-use Rattle.std.specs.Ordering.{nat_cmp, eq_by_cmp}
-use Rattle.std.specs.Cmp.Lexicographic.{slice_cmp, nat_list_cmp_total}
+use Rattle.std.specs.Cmp.Lexicographic.{nat_list_cmp_total}
 use Rattle.std.specs.Str.{bytes_eq}
 use Rattle.std.specs.FinMap as finite
 use Rattle.std.proofs.lemmas.Map.Text.{is_eq-slice_cmp}
 use Rattle.std.proofs.lemmas.Slice.Eq.{bytes_eq-Decides}
-use Rattle.outside.specs.Files.{Content, WriteKind, Append, Replace, ReadsAfter, ReadsAt, AllRead, write_of}
+use Rattle.outside.specs.Files.{Content, WriteKind, Append, Replace, ReadsAfter, AllRead, write_of}
 use Rattle.outside.specs.MemFiles.{Contents}
-use Rattle.outside.specs.Written.{content_after}
+use Rattle.outside.specs.MemCalls.{content_after}
 
 after_done : (kind : WriteKind) (old : Content) (bytes : List ℕ) → ReadsAfter kind true bytes old (Some (content_after kind old bytes))
 after_done Append old bytes = refl

@@ -1,5 +1,5 @@
 -- The records that files in memory keep of the calls begun, and their contents, as contracts see them.
-use Rattle.std.specs.Prelude.{ℕ, List, map, string_bytes, String, Vec}
+use Rattle.std.specs.Prelude.{ℕ, map, string_bytes, String, Vec}
 use Rattle.std.specs.BTreeMap.{BTreeMap}
 use Rattle.std.specs.FinMap as finite
 use Rattle.std.specs.declared.alloc.Global.{Global}

@@ -1,7 +1,7 @@
 -- Laws of what a crash may leave.
-use Rattle.std.specs.Prelude.{◌≡◌, ◌↔◌, ℕ, true, false, List, [], ◌++◌, All, bytes_eq}
+use Rattle.std.specs.Prelude.{◌≡◌, ◌↔◌, ◌⊎◌, ℕ, true, false, List, [], ◌++◌, All, bytes_eq}
 use Rattle.outside.specs.Files.{Content, Write}
-use Rattle.outside.specs.Crash.{State, Leads, MayLeave}
+use Rattle.outside.specs.Crash.{State, Leads, MayLeave, IsMoment}
 
 -- Writes lead on as their two parts do, one after the other.
 abbrev pub RunsJoin : Type 0
@@ -21,3 +21,8 @@ OthersStay =
 -- Before any write a crash leaves what a read gives.
 abbrev pub StartsKept : Type 0
 StartsKept = (name : List ℕ) (start left : Content) → MayLeave name start [] left ↔ (left ≡ start)
+
+-- A moment of two parts is one of the first, or the whole first part and then one of the second.
+abbrev pub MomentsJoin : Type 0
+MomentsJoin =
+    (ws vs seen : List Write) → IsMoment (ws ++ vs) seen ↔ (IsMoment ws seen ⊎ ((later : List Write) × IsMoment vs later × (seen ≡ ws ++ later)))

@@ -4,9 +4,9 @@ pub mod Crash
 pub mod CrashLaws
 pub mod Fault
 pub mod Files
+pub mod MemCalls
 pub mod MemFiles
 pub mod MemSink
 pub mod Sink
 pub mod StdFiles
 pub mod Whole
-pub mod Written

@@ -3,7 +3,7 @@ ghost use Rattle.std.specs.Prelude.{◌≡◌, ◌<◌, ◌+◌, ◌^◌, take, 
 ghost use Rattle.std.specs.FinMap as finite;
 ghost use Rattle.std.specs.Option.{option_copied};
 ghost use Rattle.outside.specs.Begun.{contents_of, write_kind};
-ghost use Rattle.outside.specs.Written.{content_after};
+ghost use Rattle.outside.specs.MemCalls.{content_after};
 
 use crate::NoMemory;
 use crate::begun::Kind;

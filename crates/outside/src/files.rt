@@ -1,4 +1,4 @@
-ghost use Rattle.std.specs.Prelude.{◌≡◌, ◌<◌, ◌≤◌, ◌+◌, ◌^◌, ℕ, List, Option, length, IfOk, IsErrOf};
+ghost use Rattle.std.specs.Prelude.{◌≡◌, ◌<◌, ◌≤◌, ◌+◌, ◌^◌, ℕ, List, Option, length, IfOk};
 ghost use Rattle.outside.specs.Fault.{Counts};
 ghost use Rattle.outside.specs.Files.{Content, Read, Write, Append, Replace, ReadGives, ReadBegun, Wrote, WriteBegun};
 

@@ -19,10 +19,13 @@ mod turns;
 
 pub use fault::FileFault;
 pub use files::Files;
-pub use laws::{done_is_kept, others_stay, runs_join, starts_kept};
+pub use laws::{done_is_kept, moments_join, others_stay, runs_join, starts_kept};
 pub use mem_files::MemFiles;
 pub use mem_sink::MemSink;
 pub use memory::NoMemory;
 pub use sink::Sink;
 pub use std_files::StdFiles;
 pub use std_sink::StdSink;
+
+#[cfg(test)]
+mod tests;

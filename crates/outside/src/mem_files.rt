@@ -1,10 +1,9 @@
-ghost use Rattle.std.specs.Prelude.{Some, true, false, ◌≡◌, ◌⊎◌, ◌<◌, ◌≤◌, ◌+◌, ◌^◌, ◌↔◌, ◌++◌, [], ◌∷◌, length, take, Contains, IsTrue, OnOk, OnErr, IfOk, IfNone, IsSomeAnd, IsNone, IsErrOf, string_bytes};
+ghost use Rattle.std.specs.Prelude.{Some, ◌≡◌, ◌⊎◌, ◌<◌, ◌≤◌, ◌+◌, ◌^◌, ◌↔◌, [], take, Contains, IsTrue, OnOk, OnErr, IfOk, IsSomeAnd, IsNone, IsErrOf};
 ghost use Rattle.std.specs.FinMap as finite;
 ghost use Rattle.std.specs.Option.{option_copied};
-ghost use Rattle.outside.specs.Count.{counted};
 ghost use Rattle.outside.specs.Fault.{Counts, Rose};
-ghost use Rattle.outside.specs.Files.{Append, Replace, ReadBegun, WriteBegun, Wrote, bytes_in, write_of};
-ghost use Rattle.outside.specs.Written.{content_after};
+ghost use Rattle.outside.specs.Files.{Append, Replace, Wrote};
+ghost use Rattle.outside.specs.MemCalls.{with_call, with_file, with_read, with_failed_read, with_write, with_failed_write};
 ghost use Rattle.outside.specs.Begun.{write_kind};
 
 use crate::begun::{BegunRead, BegunWrite, Kind};
@@ -77,7 +76,7 @@ impl MemFiles {
 
     /// Sets the content of a file. This is no counted call.
     pub fn put(&mut self, name: &str, bytes: &[u8]) -> Result<(), NoMemory>
-        ensures ok { OnOk result (self.new ≡ record self.old { files = finite.insert self.old.files name.now bytes.now }) }
+        ensures ok { OnOk result (self.new ≡ with_file name.now bytes.now self.old) }
         ensures err { OnErr result (self.new ≡ self.old) }
     {
         let bytes = bytes.to_vec(self.alloc)?;
@@ -101,7 +100,7 @@ impl MemFiles {
     // Counts a call, and says whether it is to fail.
     fn begin_call(&mut self) -> bool
         ensures fails { IsTrue result ↔ Contains self.old.fails self.old.calls }
-        ensures state { self.new ≡ record self.old { calls = counted self.old.calls } }
+        ensures state { self.new ≡ with_call self.old }
     {
         let call = self.calls;
         self.calls = call.saturating_add(1);
@@ -110,10 +109,7 @@ impl MemFiles {
 
     // Keeps a read that fails, and counts the fault.
     fn fail_read(&mut self, name: &str, most: u64) -> Result<(), NoMemory>
-        ensures ok { OnOk result (self.new ≡ record self.old {
-          reads = self.old.reads ++ record { name = name.now; most = most } ∷ [];
-          read_faults = counted self.old.read_faults;
-        }) }
+        ensures ok { OnOk result (self.new ≡ with_failed_read name.now most self.old) }
         ensures err { OnErr result (self.new ≡ self.old) }
         ensures rises { OnOk result ((self.old.read_faults ≤ self.new.read_faults) × Rose self.old.read_faults self.new.read_faults) }
     {
@@ -124,10 +120,7 @@ impl MemFiles {
 
     // Keeps a write that fails, and counts the fault.
     fn fail_write(&mut self, kind: Kind, name: &str, bytes: &[u8]) -> Result<(), NoMemory>
-        ensures ok { OnOk result (self.new ≡ record self.old {
-          writes = self.old.writes ++ write_of (write_kind kind) name.now bytes.now false ∷ [];
-          write_faults = counted self.old.write_faults;
-        }) }
+        ensures ok { OnOk result (self.new ≡ with_failed_write (write_kind kind) name.now bytes.now self.old) }
         ensures err { OnErr result (self.new ≡ self.old) }
         ensures rises { OnOk result ((self.old.write_faults ≤ self.new.write_faults) × Rose self.old.write_faults self.new.write_faults) }
     {
@@ -139,13 +132,10 @@ impl MemFiles {
 
     // Does a write, and keeps it.
     fn do_write(&mut self, kind: Kind, name: &str, bytes: &[u8]) -> Result<(), NoMemory>
-        ensures ok { OnOk result (self.new ≡ record self.old {
-          files = finite.insert self.old.files name.now (content_after (write_kind kind) (finite.get self.old.files name.now) bytes.now);
-          writes = self.old.writes ++ write_of (write_kind kind) name.now bytes.now true ∷ [];
-        }) }
+        ensures ok { OnOk result (self.new ≡ with_write (write_kind kind) name.now bytes.now self.old) }
         ensures err { OnErr result (self.new ≡ self.old) }
     {
-        let next = written(self.alloc, kind, content(&self.files, name), bytes)?;
+        let next = written(self.alloc, kind, self.get(name), bytes)?;
         let begun = BegunWrite::new(self.alloc, kind, name, bytes, true)?;
         self.writes.push(begun)?;
         let stored = set_content(self.alloc, &mut self.files, name, next);
@@ -155,21 +145,13 @@ impl MemFiles {
         stored
     }
 
-    // A write that is counted, of either kind.
+    // A counted write of either kind.
     fn write(&mut self, kind: Kind, name: &str, bytes: &[u8]) -> Result<(), FileFault>
-        ensures fails { IsErrOf result FileFault.Failed → Contains self.old.fails self.old.calls }
-        ensures goes { OnOk result (¬ Contains self.old.fails self.old.calls) }
-        ensures ok { OnOk result (self.new ≡ record self.old {
-          files = finite.insert self.old.files name.now (content_after (write_kind kind) (finite.get self.old.files name.now) bytes.now);
-          calls = counted self.old.calls;
-          writes = self.old.writes ++ write_of (write_kind kind) name.now bytes.now true ∷ [];
-        }) }
-        ensures failed { IsErrOf result FileFault.Failed → self.new ≡ record self.old {
-          calls = counted self.old.calls;
-          writes = self.old.writes ++ write_of (write_kind kind) name.now bytes.now false ∷ [];
-          write_faults = counted self.old.write_faults;
-        } }
-        ensures memory { IsErrOf result FileFault.NoMemory → self.new ≡ record self.old { calls = counted self.old.calls } }
+        ensures planned { IsErrOf result FileFault.Failed → Contains self.old.fails self.old.calls }
+        ensures unplanned { OnOk result (¬ Contains self.old.fails self.old.calls) }
+        ensures ok { OnOk result (self.new ≡ with_write (write_kind kind) name.now bytes.now (with_call self.old)) }
+        ensures failed { IsErrOf result FileFault.Failed → self.new ≡ with_failed_write (write_kind kind) name.now bytes.now (with_call self.old) }
+        ensures memory { IsErrOf result FileFault.NoMemory → self.new ≡ with_call self.old }
         ensures contents { Wrote (write_kind kind) name.now bytes.now result (Some (finite.get self.old.files)) (Some (finite.get self.new.files)) }
         ensures count { Counts self.old.write_faults self.new.write_faults result }
     {
@@ -184,17 +166,14 @@ impl MemFiles {
     // A read that is not to fail of itself.
     fn do_read(&mut self, alloc: Global, name: &str, most: u64) -> Result<Vec<u8>, FileFault>
         requires { most < 2 ^ 63 }
-        ensures bytes { IfOk result (λ v. IsSomeAnd (finite.get self.old.files name.now) (λ whole. v.items ≡ take (most + 1) whole)) }
         ensures missing { IsErrOf result FileFault.Failed → IsNone (finite.get self.old.files name.now) }
-        ensures ok { OnOk result (self.new ≡ record self.old { reads = self.old.reads ++ record { name = name.now; most = most } ∷ [] }) }
-        ensures failed { IsErrOf result FileFault.Failed → self.new ≡ record self.old {
-          reads = self.old.reads ++ record { name = name.now; most = most } ∷ [];
-          read_faults = counted self.old.read_faults;
-        } }
+        ensures bytes { IfOk result (λ v. IsSomeAnd (finite.get self.old.files name.now) (λ whole. v.items ≡ take (most + 1) whole)) }
+        ensures ok { OnOk result (self.new ≡ with_read name.now most self.old) }
+        ensures failed { IsErrOf result FileFault.Failed → self.new ≡ with_failed_read name.now most self.old }
         ensures memory { IsErrOf result FileFault.NoMemory → self.new ≡ self.old }
         ensures count { Counts self.old.read_faults self.new.read_faults result }
     {
-        match content(&self.files, name) {
+        match self.get(name) {
             Some(whole) => {
                 let bytes = front(alloc, whole, most)?;
                 self.reads.push(BegunRead::new(self.alloc, name, most)?)?;
@@ -224,20 +203,13 @@ impl Files for MemFiles {
 
     fn read(&mut self, alloc: Global, name: &str, most: u64) -> Result<Vec<u8>, FileFault>
         requires { most < 2 ^ 63 }
-        ensures fails { IsErrOf result FileFault.Failed
+        ensures planned { IsErrOf result FileFault.Failed
             → Contains self.old.fails self.old.calls ⊎ IsNone (finite.get self.old.files name.now) }
-        ensures goes { OnOk result (¬ Contains self.old.fails self.old.calls) }
+        ensures unplanned { OnOk result (¬ Contains self.old.fails self.old.calls) }
         ensures bytes { IfOk result (λ v. IsSomeAnd (finite.get self.old.files name.now) (λ whole. v.items ≡ take (most + 1) whole)) }
-        ensures ok { OnOk result (self.new ≡ record self.old {
-          calls = counted self.old.calls;
-          reads = self.old.reads ++ record { name = name.now; most = most } ∷ [];
-        }) }
-        ensures failed { IsErrOf result FileFault.Failed → self.new ≡ record self.old {
-          calls = counted self.old.calls;
-          reads = self.old.reads ++ record { name = name.now; most = most } ∷ [];
-          read_faults = counted self.old.read_faults;
-        } }
-        ensures memory { IsErrOf result FileFault.NoMemory → self.new ≡ record self.old { calls = counted self.old.calls } }
+        ensures ok { OnOk result (self.new ≡ with_read name.now most (with_call self.old)) }
+        ensures failed { IsErrOf result FileFault.Failed → self.new ≡ with_failed_read name.now most (with_call self.old) }
+        ensures memory { IsErrOf result FileFault.NoMemory → self.new ≡ with_call self.old }
         ensures count { Counts self.old.read_faults self.new.read_faults result }
     {
         if self.begin_call() {
@@ -248,19 +220,11 @@ impl Files for MemFiles {
     }
 
     fn append(&mut self, name: &str, bytes: &[u8]) -> Result<(), FileFault>
-        ensures fails { IsErrOf result FileFault.Failed → Contains self.old.fails self.old.calls }
-        ensures goes { OnOk result (¬ Contains self.old.fails self.old.calls) }
-        ensures ok { OnOk result (self.new ≡ record self.old {
-          files = finite.insert self.old.files name.now (bytes_in (finite.get self.old.files name.now) ++ bytes.now);
-          calls = counted self.old.calls;
-          writes = self.old.writes ++ write_of Append name.now bytes.now true ∷ [];
-        }) }
-        ensures failed { IsErrOf result FileFault.Failed → self.new ≡ record self.old {
-          calls = counted self.old.calls;
-          writes = self.old.writes ++ write_of Append name.now bytes.now false ∷ [];
-          write_faults = counted self.old.write_faults;
-        } }
-        ensures memory { IsErrOf result FileFault.NoMemory → self.new ≡ record self.old { calls = counted self.old.calls } }
+        ensures planned { IsErrOf result FileFault.Failed → Contains self.old.fails self.old.calls }
+        ensures unplanned { OnOk result (¬ Contains self.old.fails self.old.calls) }
+        ensures ok { OnOk result (self.new ≡ with_write Append name.now bytes.now (with_call self.old)) }
+        ensures failed { IsErrOf result FileFault.Failed → self.new ≡ with_failed_write Append name.now bytes.now (with_call self.old) }
+        ensures memory { IsErrOf result FileFault.NoMemory → self.new ≡ with_call self.old }
         ensures contents { Wrote Append name.now bytes.now result (Some (finite.get self.old.files)) (Some (finite.get self.new.files)) }
         ensures count { Counts self.old.write_faults self.new.write_faults result }
     {
@@ -268,19 +232,11 @@ impl Files for MemFiles {
     }
 
     fn replace(&mut self, name: &str, bytes: &[u8]) -> Result<(), FileFault>
-        ensures fails { IsErrOf result FileFault.Failed → Contains self.old.fails self.old.calls }
-        ensures goes { OnOk result (¬ Contains self.old.fails self.old.calls) }
-        ensures ok { OnOk result (self.new ≡ record self.old {
-          files = finite.insert self.old.files name.now bytes.now;
-          calls = counted self.old.calls;
-          writes = self.old.writes ++ write_of Replace name.now bytes.now true ∷ [];
-        }) }
-        ensures failed { IsErrOf result FileFault.Failed → self.new ≡ record self.old {
-          calls = counted self.old.calls;
-          writes = self.old.writes ++ write_of Replace name.now bytes.now false ∷ [];
-          write_faults = counted self.old.write_faults;
-        } }
-        ensures memory { IsErrOf result FileFault.NoMemory → self.new ≡ record self.old { calls = counted self.old.calls } }
+        ensures planned { IsErrOf result FileFault.Failed → Contains self.old.fails self.old.calls }
+        ensures unplanned { OnOk result (¬ Contains self.old.fails self.old.calls) }
+        ensures ok { OnOk result (self.new ≡ with_write Replace name.now bytes.now (with_call self.old)) }
+        ensures failed { IsErrOf result FileFault.Failed → self.new ≡ with_failed_write Replace name.now bytes.now (with_call self.old) }
+        ensures memory { IsErrOf result FileFault.NoMemory → self.new ≡ with_call self.old }
         ensures contents { Wrote Replace name.now bytes.now result (Some (finite.get self.old.files)) (Some (finite.get self.new.files)) }
         ensures count { Counts self.old.write_faults self.new.write_faults result }
     {

@@ -1,4 +1,4 @@
-use Rattle.std.proofs.Common.{◌≡◌, sym, ap, ◌∙◌, Some, None}
+use Rattle.std.proofs.Common.{sym, ap, ◌∙◌, Some}
 use Rattle.std.specs.Option.{option_map}
 use Rattle.outside.proofs.Stored.{get-contents}
 use Rattle.outside.proofs.contents.content.Goals as goal

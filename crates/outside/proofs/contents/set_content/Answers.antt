@@ -1,4 +1,4 @@
-use Rattle.std.proofs.Common.{◌≡◌, sym, ap, ◌∙◌, string_bytes}
+use Rattle.std.proofs.Common.{ap, ◌∙◌, string_bytes}
 use Rattle.std.specs.FinMap as finite
 use Rattle.outside.specs.Begun.{contents_of}
 use Rattle.outside.proofs.Stored.{contents-insert}

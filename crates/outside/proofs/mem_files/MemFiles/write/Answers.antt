@@ -1,7 +1,7 @@
 use Rattle.std.proofs.Common.{◌≡◌}
 use Rattle.std.specs.FinMap as finite
 use Rattle.outside.specs.Begun.{write_kind}
-use Rattle.outside.specs.Written.{content_after}
+use Rattle.outside.specs.MemCalls.{content_after}
 use Rattle.outside.proofs.Effects.{AllRead-after}
 use Rattle.outside.proofs.mem_files.MemFiles.write.Goals as goal
 
