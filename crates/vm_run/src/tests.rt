@@ -3,7 +3,8 @@
 use super::*;
 use std::alloc::Global;
 use std::test::Fail;
-use vm_num::{Args, Bytes, Failure, push_bytes};
+use vm_num::{Failure, push_bytes};
+use wire::{Args, Bytes};
 
 fn succeeded(left: u64) -> Verdict {
     Verdict::Succeeded { left }
