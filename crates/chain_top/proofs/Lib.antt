@@ -1,3 +1,4 @@
+pub mod Answered
 pub mod HexWords
 pub mod VmReplies
 pub mod Words

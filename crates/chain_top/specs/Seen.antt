@@ -1,9 +1,17 @@
 -- What a contract sees of a command that was read.
-use Rattle.std.specs.Prelude.{ℕ, Option, Some, None, map, string_bytes}
+use Rattle.std.specs.Prelude.{ℕ, ◌≤◌, Option, Some, None, map, string_bytes}
 use Rattle.chain_top.specs.declared.command.Command.{Command as RustCommand}
 use Rattle.chain_top.specs.declared.command.Command.TheVariants as rust
-use Rattle.chain_top.specs.Command.{Command, Vm}
+use Rattle.chain_top.specs.Command.{Command, Vm, limit_most}
+
+abbrev pub seen : RustCommand → Command
+seen (rust.Vm limit program args) = Vm limit (string_bytes program.now) (map string_bytes args.now)
 
 abbrev pub seen_command : Option RustCommand → Option Command
 seen_command None = None
-seen_command (Some (rust.Vm limit program args)) = Some (Vm limit (string_bytes program.now) (map string_bytes args.now))
+seen_command (Some command) = Some (seen command)
+
+-- a limit is at most 100,000
+abbrev pub HasLimit : Option RustCommand → Type 0
+HasLimit None = Unit {0}
+HasLimit (Some (rust.Vm limit program args)) = limit ≤ limit_most

@@ -1,7 +1,7 @@
 // The grammar of words.
 ghost use Rattle.std.specs.Prelude.{◌≡◌, ◌+◌, ◌<◌, ◌^◌, length, map, string_bytes, IfSome};
 ghost use Rattle.chain_top.specs.Command.{command_of, vm_words};
-ghost use Rattle.chain_top.specs.Seen.{seen_command};
+ghost use Rattle.chain_top.specs.Seen.{seen_command, HasLimit};
 
 use crate::word::decimal;
 
@@ -21,7 +21,8 @@ pub enum Command<'a> {
 
 /// The command that words say, or none where they are outside the grammar.
 pub fn command_of(words: &[String]) -> Option<Command<'_>>
-    ensures { seen_command result ≡ command_of (map string_bytes words.now) }
+    ensures reads { seen_command result ≡ command_of (map string_bytes words.now) }
+    ensures limit { HasLimit result }
 {
     match words {
         [name, rest @ ..] if name.as_str() == "vm" => vm_words(rest),
@@ -30,7 +31,8 @@ pub fn command_of(words: &[String]) -> Option<Command<'_>>
 }
 
 fn vm_words(words: &[String]) -> Option<Command<'_>>
-    ensures { seen_command result ≡ vm_words (map string_bytes words.now) }
+    ensures reads { seen_command result ≡ vm_words (map string_bytes words.now) }
+    ensures limit { HasLimit result }
 {
     match words {
         [limit, program, args @ ..] => {

@@ -1,9 +1,11 @@
 //! The program as one call: its words, its files, what it prints, and the status that it ends with.
 #![tactic(auto)]
 
-ghost use Rattle.std.specs.Prelude.{map, string_bytes};
+ghost use Rattle.std.specs.Prelude.{List, Some, map, string_bytes};
 ghost use Rattle.chain_top.specs.Answer.{world, Answers, HasCauses};
-ghost use Rattle.chain_top.specs.Reply.{IsReply};
+ghost use Rattle.chain_top.specs.Reply.{IsReply, CommandReply};
+ghost use Rattle.chain_top.specs.Seen.{seen, HasLimit};
+ghost use Rattle.chain_top.specs.Word.{Word};
 
 mod command;
 mod line;
@@ -42,11 +44,33 @@ pub fn chain_main<F: Files, S: Sink, H: IdHash, C: SigCheck>(
 {
     match command_of(words) {
         None => say(out, USAGE, USAGE_LINE),
-        Some(Command::Vm {
+        Some(command) => run(alloc, command, files, out, hash, sigs),
+    }
+}
+
+// Does a command.
+fn run<F: Files, S: Sink, H: IdHash, C: SigCheck>(
+    alloc: Global,
+    command: Command<'_>,
+    files: &mut F,
+    out: &mut S,
+    _hash: &H,
+    sigs: &C,
+) -> u8
+    requires { HasLimit (Some command) }
+    ensures answers { (words : List Word) → Answers (CommandReply (C.good_of sigs.now) (Some (seen command.entry))) words
+        (world S.held S.faults F.contents F.reads F.writes F.read_faults F.write_faults out.old files.old)
+        (world S.held S.faults F.contents F.reads F.writes F.read_faults F.write_faults out.new files.new) result }
+    ensures causes { HasCauses
+        (world S.held S.faults F.contents F.reads F.writes F.read_faults F.write_faults out.old files.old)
+        (world S.held S.faults F.contents F.reads F.writes F.read_faults F.write_faults out.new files.new) result }
+{
+    match command {
+        Command::Vm {
             limit,
             program,
             args,
-        }) => match vm_told(alloc, limit, program.as_str(), args) {
+        } => match vm_told(alloc, limit, program.as_str(), args) {
             Ok(told) => say(out, told.status, told.line.as_bytes()),
             Err(_) => NO_MEMORY,
         },

@@ -1,5 +1,5 @@
 // The command `vm`.
-ghost use Rattle.std.specs.Prelude.{◌≡◌, ◌+◌, ◌<◌, ◌≤◌, ◌^◌, length, map, string_bytes, IfOk};
+ghost use Rattle.std.specs.Prelude.{◌≡◌, ◌+◌, ◌<◌, ◌≤◌, ◌^◌, length, map, string_bytes, string_len, IfOk};
 ghost use Rattle.vm_run.specs.Row.{Check};
 ghost use Rattle.chain_top.specs.Reply.{told, VmReply, TellsVerdict};
 ghost use Rattle.chain_top.specs.Line.{refused_hex};
@@ -27,7 +27,9 @@ pub fn vm_told(
 ) -> Result<Told, AllocError>
     requires limit { limit ≤ 100000 }
     requires few { length args.now + 3 < 2 ^ 64 }
-    ensures { IfOk result (λ t. (check : Check) → VmReply check limit program.now (map string_bytes args.now) (told t.status (string_bytes t.line))) }
+    ensures line { IfOk result (λ t. 0 < string_len t.line) }
+    ensures status { IfOk result (λ t. t.status ≤ 2) }
+    ensures tells { IfOk result (λ t. (check : Check) → VmReply check limit program.now (map string_bytes args.now) (told t.status (string_bytes t.line))) }
 {
     match hex_word(alloc, program)? {
         None => refused(alloc, 2),
@@ -41,7 +43,9 @@ pub fn vm_told(
 
 fn ran(alloc: Global, limit: u64, program: &[u8], args: &Args) -> Result<Told, AllocError>
     requires { limit ≤ 100000 }
-    ensures { IfOk result (λ t. (check : Check) → TellsVerdict check limit program.now args.now t.status (string_bytes t.line)) }
+    ensures line { IfOk result (λ t. 0 < string_len t.line) }
+    ensures status { IfOk result (λ t. t.status ≤ 2) }
+    ensures tells { IfOk result (λ t. (check : Check) → TellsVerdict check limit program.now args.now t.status (string_bytes t.line)) }
 {
     match verify(alloc, program, args, limit) {
         Ok(verdict) => Ok(Told {
@@ -53,7 +57,9 @@ fn ran(alloc: Global, limit: u64, program: &[u8], args: &Args) -> Result<Told, A
 }
 
 fn refused(alloc: Global, place: u64) -> Result<Told, AllocError>
-    ensures { IfOk result (λ t. told t.status (string_bytes t.line) ≡ told 2 (refused_hex place)) }
+    ensures line { IfOk result (λ t. 0 < string_len t.line) }
+    ensures status { IfOk result (λ t. t.status ≤ 2) }
+    ensures tells { IfOk result (λ t. told t.status (string_bytes t.line) ≡ told 2 (refused_hex place)) }
 {
     Ok(Told {
         status: REFUSED,

@@ -1,5 +1,5 @@
 // Readings of words.
-ghost use Rattle.std.specs.Prelude.{◌≡◌, ◌+◌, ◌<◌, ◌^◌, length, map, string_bytes, string_len};
+ghost use Rattle.std.specs.Prelude.{◌≡◌, ◌+◌, ◌<◌, ◌≤◌, ◌^◌, length, IfSome, map, string_bytes, string_len};
 ghost use Rattle.std.specs.List.{list_all};
 ghost use Rattle.std.specs.Char.{is_ascii_digit};
 ghost use Rattle.chain_top.specs.Word.{is_decimal, decimal_within, hex_of, hex_words};
@@ -21,7 +21,8 @@ pub enum HexFault {
 /// The number of a decimal word of at most `most`.
 #[tactic(auto, unfolding(crate::specs::Word::decimal_within))]
 pub fn decimal(word: &str, most: u64) -> Option<u64>
-    ensures { result ≡ decimal_within most word.now }
+    ensures reads { result ≡ decimal_within most word.now }
+    ensures small { IfSome result (λ number. number ≤ most) }
 {
     if !is_decimal(word.as_bytes()) {
         return None;
