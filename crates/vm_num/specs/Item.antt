@@ -1,5 +1,5 @@
 -- Items of the machine's stacks, and what they are read as.
-use Rattle.std.specs.Prelude.{◌≡◌, ◌≢◌, ℕ, ◌+◌, ◌-◌, ◌<◌, ◌^◌, ◌==◌, Bool, List, [], ◌∷◌, ◌++◌, length, Option, Some, None, if◌then◌else◌, nat_le, nat_lt, sum_by, not, replicate, ℤ, pos, negsuc, ◌+ℤ◌, ◌-ℤ◌, get_or}
+use Rattle.std.specs.Prelude.{ℕ, ◌+◌, ◌-◌, ◌<◌, ◌^◌, ◌==◌, Bool, List, [], ◌∷◌, ◌++◌, length, Option, Some, None, if◌then◌else◌, nat_le, nat_lt, sum_by, not, replicate, ℤ, pos, negsuc, ◌+ℤ◌, ◌-ℤ◌, get_or}
 use Rattle.std.specs.List.{list_any}
 use Rattle.std.specs.Int.{w64, to_le_bytes, from_le_bytes, cast_signed, cast_unsigned}
 

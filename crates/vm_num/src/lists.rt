@@ -94,6 +94,13 @@ impl Args {
         Ok(())
     }
 
+    /// The arguments as a vector.
+    pub fn into_vec(self) -> Vec<Bytes>
+        ensures { result.items ≡ self }
+    {
+        self.items
+    }
+
     /// The arguments, in order.
     pub fn as_slice(&self) -> &[Bytes]
         ensures { result.now ≡ self.now }

@@ -1,0 +1,12 @@
+//! The virtual machine (Chain VM 1): it runs a program on its arguments under a limit, and says how the run ends.
+#![tactic(auto)]
+
+pub mod laws;
+mod machine;
+mod memory;
+mod row;
+mod stack;
+mod verdict;
+
+pub use memory::NoMemory;
+pub use verdict::Verdict;
