@@ -1,0 +1,5 @@
+pub mod Loop
+pub mod Readers
+pub mod Fields
+pub mod Records
+pub mod Whole

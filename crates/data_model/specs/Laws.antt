@@ -1,0 +1,19 @@
+-- What holds of the reading of blocks.
+use Rattle.std.specs.Prelude.{◌≡◌, ℕ, ◌↔◌, List, Ok, Err}
+use Rattle.wire.specs.Spelling.{AreBytes}
+use Rattle.data_model.specs.declared.block.Block.{Block}
+use Rattle.data_model.specs.Layout.{FirstFault, block_layout}
+use Rattle.data_model.specs.Spelling.{IsBlock, block_spelling}
+use Rattle.data_model.specs.Reading.{Fault, block_at}
+
+pub record BlockLaws : Type 0 where
+  -- what is read is spelled so
+  pub spelled : (bytes : List ℕ) (block : Block) → AreBytes bytes → block_at bytes ≡ Ok block → IsBlock block × (bytes ≡ block_spelling block)
+  -- what is spelled is read again
+  pub again : (block : Block) → IsBlock block → block_at (block_spelling block) ≡ Ok block
+  -- no two blocks have one spelling
+  pub one_form : (a b : Block) → IsBlock a → IsBlock b → block_spelling a ≡ block_spelling b → a ≡ b
+  -- what is told of other bytes is their first fault
+  pub fault : (bytes : List ℕ) (f : Fault) → AreBytes bytes → (block_at bytes ≡ Err f) ↔ FirstFault block_layout bytes f.at f.kind
+  -- bytes have at most one first fault
+  pub one_fault : (bytes : List ℕ) (f g : Fault) → AreBytes bytes → FirstFault block_layout bytes f.at f.kind → FirstFault block_layout bytes g.at g.kind → f ≡ g

@@ -1,0 +1,44 @@
+-- How records are spelled in bytes, and which of them have a spelling.
+use Rattle.std.specs.Prelude.{◌≡◌, ℕ, ◌^◌, ◌≤◌, ◌<◌, List, ◌++◌, length}
+use Rattle.std.specs.List.{flat_map, AllByRecursion}
+use Rattle.wire.specs.Spelling.{varint, varstring}
+use Rattle.data_model.specs.declared.header.Header.{Header}
+use Rattle.data_model.specs.declared.block.Block.{Block}
+use Rattle.data_model.specs.Layout.{longest, most_args, most_txs}
+
+-- ---- within the limits
+
+abbrev pub IsString : List ℕ → Type 0
+IsString text = length text ≤ longest
+
+abbrev pub AreArgs : List (List ℕ) → Type 0
+AreArgs args = (length args ≤ most_args) × AllByRecursion IsString args
+
+pub record IsHeader (header : Header) : Type 0 where
+  pub version : header.version < 2 ^ 63
+  pub height : header.height < 2 ^ 63
+  pub previous : length header.previous ≡ 32
+  pub time : header.time < 2 ^ 63
+  pub tx_root : length header.tx_root ≡ 32
+  pub unspent_root : length header.unspent_root ≡ 32
+  pub next_program : IsString header.next_program
+
+pub record IsBlock (block : Block) : Type 0 where
+  pub header : IsHeader block.header
+  pub args : AreArgs block.args
+  pub txs : length block.txs ≤ most_txs
+
+-- ---- the spellings
+
+-- how many arguments there are, and the arguments
+abbrev pub args_spelling : List (List ℕ) → List ℕ
+args_spelling args = varint (length args) ++ flat_map varstring args
+
+unfoldable pub header_spelling : Header → List ℕ
+header_spelling header =
+    varint header.version ++ varint header.height ++ header.previous ++ varint header.time ++ header.tx_root ++ header.unspent_root
+    ++ varstring header.next_program
+
+-- the header, the arguments, and how many transactions there are
+unfoldable pub block_spelling : Block → List ℕ
+block_spelling block = header_spelling block.header ++ args_spelling block.args ++ varint (length block.txs)
