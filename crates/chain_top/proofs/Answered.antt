@@ -7,15 +7,8 @@ use Rattle.outside.specs.Files.{Content, Read, Write}
 use Rattle.outside.specs.Crash.{IsMoment}
 use Rattle.chain_top.specs.Word.{Word}
 use Rattle.chain_top.specs.Reply.{Line, Reply, Given, told}
-use Rattle.chain_top.specs.Answer.{World, Shown, Agrees, Answers, HasCauses, Follows, joined, Said, whole, part, none, text_of}
-
-pub holding-none : (held : Option (List ℕ)) → held ≡ holding held []
-holding-none None = refl
-holding-none (Some h) = ap Some (sym (append-nil h))
-
-pub joined-none : {X : Type 0} (old : Option (List X)) → old ≡ joined old []
-joined-none None = refl
-joined-none (Some xs) = ap Some (sym (append-nil xs))
+use Rattle.chain_top.proofs.Done.{Untouched, holding-none, joined-none}
+use Rattle.chain_top.specs.Answer.{World, Shown, Agrees, Answers, HasCauses, Follows, Did, joined, Said, whole, part, none, text_of}
 
 -- what is given under the words, where the files tell, and else nothing
 pub given_of : Option (List ℕ → Content) → List Word → Given
@@ -31,14 +24,6 @@ pub nothing-shown : (lines : List Line) (done : ℕ) → Shown lines done []
 nothing-shown [] done = refl
 nothing-shown (line ∷ lines) done = inl refl
 
--- files that no call touched
-pub record Untouched (before after : World) : Type 0 where
-  pub contents : after.contents ≡ before.contents
-  pub reads : after.reads ≡ before.reads
-  pub writes : after.writes ≡ before.writes
-  pub read_faults : after.read_faults ≡ before.read_faults
-  pub write_faults : after.write_faults ≡ before.write_faults
-
 module _ (model : Given → Reply → Type 0) (words : List Word) (before after : World) (same : Untouched before after) where
   answered : (reply : Reply) (status : ℕ) (printed : List ℕ) → model (given_of before.contents words) reply → after.held ≡ holding before.held printed → Follows reply status printed [] [] → Answers model words before after status
   answered reply status printed is held follows = record {
@@ -49,10 +34,7 @@ module _ (model : Given → Reply → Type 0) (words : List Word) (before after 
     printed = printed;
     reads = [];
     begun = [];
-    held = held;
-    reads_begun = same.reads ∙ joined-none before.reads;
-    writes_begun = same.writes ∙ joined-none before.writes;
-    contents = same.contents;
+    did = record { held = held; reads_begun = same.reads ∙ joined-none before.reads; writes_begun = same.writes ∙ joined-none before.writes; contents = same.contents };
     follows = follows;
   }
 

@@ -67,7 +67,14 @@ pub record Follows (reply : Reply) (status : ℕ) (printed : List ℕ) (reads : 
   pub writes_in_order : IsMoment reply.writes begun
   pub whole : status < 3 → (status ≡ reply.status) × (printed ≡ text_of reply.lines) × (reads ≡ reply.reads) × (begun ≡ reply.writes)
 
--- There is a reply of the model, for what the files held, that the call followed, and it did nothing else.
+-- From one moment to another these bytes were printed, and these reads and writes were begun; nothing else was done.
+pub record Did (before after : World) (printed : List ℕ) (reads : List Read) (begun : List Write) : Type 0 where
+  pub held : after.held ≡ holding before.held printed
+  pub reads_begun : after.reads ≡ joined before.reads reads
+  pub writes_begun : after.writes ≡ joined before.writes begun
+  pub contents : GoesOn begun before.contents after.contents
+
+-- There is a reply of the model, for what the files held, that the call followed.
 pub record Answers (model : Given → Reply → Type 0) (words : List Word) (before after : World) (status : ℕ) : Type 0 where
   pub given : Given
   pub agrees : Agrees before.contents words given
@@ -76,10 +83,7 @@ pub record Answers (model : Given → Reply → Type 0) (words : List Word) (bef
   pub printed : List ℕ
   pub reads : List Read
   pub begun : List Write
-  pub held : after.held ≡ holding before.held printed
-  pub reads_begun : after.reads ≡ joined before.reads reads
-  pub writes_begun : after.writes ≡ joined before.writes begun
-  pub contents : GoesOn begun before.contents after.contents
+  pub did : Did before after printed reads begun
   pub follows : Follows reply status printed reads begun
 
 -- When a call ends with which status, of those that are no part of the reply.

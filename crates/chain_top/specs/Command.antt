@@ -1,5 +1,5 @@
 -- The grammar of words.
-use Rattle.std.specs.Prelude.{◌≡◌, ℕ, List, [], ◌∷◌, Option, Some, None, if◌then◌else◌, bytes_eq, codes}
+use Rattle.std.specs.Prelude.{◌≡◌, ℕ, ◌-◌, ◌^◌, List, [], ◌∷◌, Option, Some, None, if◌then◌else◌, bytes_eq, codes}
 use Rattle.std.specs.Option.{option_map}
 use Rattle.chain_top.specs.Word.{Word, decimal_within}
 
@@ -7,6 +7,8 @@ use Rattle.chain_top.specs.Word.{Word, decimal_within}
 pub data Command : Type 0 where
   -- the limit, the program and the arguments
   Vm : (limit : ℕ) (program : Word) (args : List Word) → Command
+  -- the ledger's name, the time of its initial block and that block's next program
+  Init : (ledger : Word) (time : ℕ) (program : Word) → Command
 
 -- until predicates run in frames of their own, a limit is at most 100,000
 abbrev pub limit_most : ℕ
@@ -18,7 +20,16 @@ vm_words (limit ∷ program ∷ args) = option_map (λ n. Vm n program args) (de
 vm_words (limit ∷ []) = None
 vm_words [] = None
 
+-- a decimal word is at most 2^63 - 1
+abbrev pub decimal_most : ℕ
+decimal_most = 2 ^ 63 - 1
+
+-- `init LEDGER TIME PROGRAM`
+abbrev pub init_words : List Word → Option Command
+init_words (ledger ∷ time ∷ program ∷ []) = option_map (λ n. Init ledger n program) (decimal_within decimal_most time)
+init_words words = None
+
 -- the command that words say; there is none where they are outside the grammar
 abbrev pub command_of : List Word → Option Command
 command_of [] = None
-command_of (name ∷ words) = if bytes_eq name (codes "vm") then vm_words words else None
+command_of (name ∷ words) = if bytes_eq name (codes "vm") then vm_words words else (if bytes_eq name (codes "init") then init_words words else None)

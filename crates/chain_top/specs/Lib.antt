@@ -1,5 +1,7 @@
 pub mod Answer
 pub mod Command
+pub mod Frames
+pub mod Initial
 pub mod Line
 pub mod Reading
 pub mod Reply

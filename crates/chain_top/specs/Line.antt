@@ -1,5 +1,6 @@
 -- Printed lines, each with its newline.
 use Rattle.std.specs.Prelude.{ℕ, List, [], ◌∷◌, ◌++◌, codes, decimal}
+use Rattle.hex.specs.Hex.{encode_lower}
 use Rattle.vm_num.specs.Failure.{failure_name}
 use Rattle.vm_run.specs.declared.verdict.Verdict.{Verdict}
 use Rattle.vm_run.specs.declared.verdict.Verdict.TheVariants.{Succeeded, Failed}
@@ -18,3 +19,7 @@ refused_hex place = codes "refused hex " ++ decimal place ++ newline
 abbrev pub verdict_line : Verdict → List ℕ
 verdict_line (Succeeded left) = codes "succeeded left " ++ decimal left ++ newline
 verdict_line (Failed kind at) = codes "failed " ++ failure_name kind ++ codes " at " ++ decimal at ++ newline
+
+-- `block HEIGHT ID`
+abbrev pub block_line : ℕ → List ℕ → List ℕ
+block_line height id = codes "block " ++ decimal height ++ codes " " ++ encode_lower id ++ newline

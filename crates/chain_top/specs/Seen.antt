@@ -2,16 +2,18 @@
 use Rattle.std.specs.Prelude.{ℕ, ◌≤◌, Option, Some, None, map, string_bytes}
 use Rattle.chain_top.specs.declared.command.Command.{Command as RustCommand}
 use Rattle.chain_top.specs.declared.command.Command.TheVariants as rust
-use Rattle.chain_top.specs.Command.{Command, Vm, limit_most}
+use Rattle.chain_top.specs.Command.{Command, Vm, Init, limit_most, decimal_most}
 
 abbrev pub seen : RustCommand → Command
 seen (rust.Vm limit program args) = Vm limit (string_bytes program.now) (map string_bytes args.now)
+seen (rust.Init ledger time program) = Init (string_bytes ledger.now) time (string_bytes program.now)
 
 abbrev pub seen_command : Option RustCommand → Option Command
 seen_command None = None
 seen_command (Some command) = Some (seen command)
 
--- a limit is at most 100,000
+-- a limit is at most 100,000, and a time is below 2 ^ 63
 abbrev pub HasLimit : Option RustCommand → Type 0
 HasLimit None = Unit {0}
 HasLimit (Some (rust.Vm limit program args)) = limit ≤ limit_most
+HasLimit (Some (rust.Init ledger time program)) = time ≤ decimal_most

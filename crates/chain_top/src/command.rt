@@ -1,12 +1,15 @@
 // The grammar of words.
 ghost use Rattle.std.specs.Prelude.{◌≡◌, ◌+◌, ◌<◌, ◌^◌, length, map, string_bytes, IfSome};
-ghost use Rattle.chain_top.specs.Command.{command_of, vm_words};
+ghost use Rattle.chain_top.specs.Command.{command_of, vm_words, init_words};
 ghost use Rattle.chain_top.specs.Seen.{seen_command, HasLimit};
 
 use crate::word::decimal;
 
 // Until predicates run in frames of their own, a limit is at most 100,000.
 const LIMIT_MOST: u64 = 100_000;
+
+// The greatest number of a decimal word.
+const DECIMAL_MOST: u64 = (1 << 63) - 1;
 
 /// A command with the words that it takes.
 #[derive(Clone, Copy)]
@@ -17,6 +20,12 @@ pub enum Command<'a> {
         program: &'a String,
         args: &'a [String],
     },
+    /// The ledger's name, the time of its initial block, and that block's next program.
+    Init {
+        ledger: &'a String,
+        time: u64,
+        program: &'a String,
+    },
 }
 
 /// The command that words say, or none where they are outside the grammar.
@@ -26,6 +35,7 @@ pub fn command_of(words: &[String]) -> Option<Command<'_>>
 {
     match words {
         [name, rest @ ..] if name.as_str() == "vm" => vm_words(rest),
+        [name, rest @ ..] if name.as_str() == "init" => init_words(rest),
         _ => None,
     }
 }
@@ -41,6 +51,23 @@ fn vm_words(words: &[String]) -> Option<Command<'_>>
                 limit,
                 program,
                 args,
+            })
+        }
+        _ => None,
+    }
+}
+
+fn init_words(words: &[String]) -> Option<Command<'_>>
+    ensures reads { seen_command result ≡ init_words (map string_bytes words.now) }
+    ensures limit { HasLimit result }
+{
+    match words {
+        [ledger, time, program] => {
+            let time = decimal(time.as_str(), DECIMAL_MOST)?;
+            Some(Command::Init {
+                ledger,
+                time,
+                program,
             })
         }
         _ => None,

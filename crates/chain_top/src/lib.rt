@@ -8,12 +8,14 @@ ghost use Rattle.chain_top.specs.Seen.{seen, HasLimit};
 ghost use Rattle.chain_top.specs.Word.{Word};
 
 mod command;
+mod init;
 mod line;
 mod say;
 mod vm;
 mod word;
 
 use command::{Command, command_of};
+use init::init;
 use keyed::{IdHash, SigCheck};
 use line::USAGE_LINE;
 use outside::{Files, Sink};
@@ -33,7 +35,7 @@ pub fn chain_main<F: Files, S: Sink, H: IdHash, C: SigCheck>(
     sigs: &C,
 ) -> u8
     // What is printed, read and written is the model's reply, or a front of it where the status is 3, 4 or 5.
-    ensures answers { Answers (IsReply (C.good_of sigs.now) (map string_bytes words.now)) (map string_bytes words.now)
+    ensures answers { Answers (IsReply (H.hash_of hash.now) (C.good_of sigs.now) (map string_bytes words.now)) (map string_bytes words.now)
         (world S.held S.faults F.contents F.reads F.writes F.read_faults F.write_faults out.old files.old)
         (world S.held S.faults F.contents F.reads F.writes F.read_faults F.write_faults out.new files.new) result }
 
@@ -54,11 +56,11 @@ fn run<F: Files, S: Sink, H: IdHash, C: SigCheck>(
     command: Command<'_>,
     files: &mut F,
     out: &mut S,
-    _hash: &H,
+    hash: &H,
     sigs: &C,
 ) -> u8
     requires { HasLimit (Some command) }
-    ensures answers { (words : List Word) → Answers (CommandReply (C.good_of sigs.now) (Some (seen command.entry))) words
+    ensures answers { (words : List Word) → Answers (CommandReply (H.hash_of hash.now) (C.good_of sigs.now) (Some (seen command.entry))) words
         (world S.held S.faults F.contents F.reads F.writes F.read_faults F.write_faults out.old files.old)
         (world S.held S.faults F.contents F.reads F.writes F.read_faults F.write_faults out.new files.new) result }
     ensures causes { HasCauses
@@ -74,5 +76,18 @@ fn run<F: Files, S: Sink, H: IdHash, C: SigCheck>(
             Ok(told) => say(out, told.status, told.line.as_bytes()),
             Err(_) => NO_MEMORY,
         },
+        Command::Init {
+            ledger,
+            time,
+            program,
+        } => init(
+            alloc,
+            ledger.as_str(),
+            time,
+            program.as_str(),
+            files,
+            out,
+            hash,
+        ),
     }
 }
