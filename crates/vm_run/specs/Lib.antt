@@ -5,3 +5,6 @@ pub mod Row
 pub mod Run
 pub mod Stack
 pub mod Verdict
+pub use Rattle.vm_code.specs.Instruction
+pub use Rattle.vm_num.specs.Item
+pub use Rattle.vm_num.specs.Push

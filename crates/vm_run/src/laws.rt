@@ -9,7 +9,7 @@ ghost use Rattle.vm_run.specs.Run.{Outcome, Run};
 ghost use Rattle.vm_run.specs.Verdict.{HasVerdict};
 ghost use Rattle.vm_run.specs.declared.verdict.Verdict.{Verdict};
 
-/// A run has one outcome.
+/// A run has no two outcomes.
 pub fn one_outcome()
     ensures { (context : Context) (check : Check) (program : List ℕ) (place : ℕ) (items alt : List Item) (limit : ℕ) (a b : Outcome) →
         Run context check program place items alt limit a → Run context check program place items alt limit b → a ≡ b }
