@@ -1,5 +1,5 @@
 -- The instruction that stands at a place of a program.
-use Rattle.std.specs.Prelude.{◌≡◌, ℕ, ◌+◌, ◌*◌, ◌==◌, ◌||◌, ◌&&◌, Bool, List, [], ◌∷◌, length, take, drop, Result, Ok, Err, if◌then◌else◌, nat_le}
+use Rattle.std.specs.Prelude.{ℕ, ◌+◌, ◌*◌, ◌==◌, ◌||◌, ◌&&◌, Bool, List, [], ◌∷◌, length, take, drop, Result, Ok, Err, if◌then◌else◌, nat_le}
 use Rattle.std.specs.List.{list_any}
 use Rattle.vm_code.specs.declared.codes.TheConstants.{FALSE, DATA_MIN, DATA_MAX, PUSHDATA1, PUSHDATA2, PUSHDATA4, NEGATIVE_ONE, ONE, SIXTEEN, VERIFY, DROP, DUP, EQUAL, ADD, SUB, NUMEQUAL, LESSTHAN, BLOCKHASH, PROGRAM, NEXTPROGRAM, BLOCKTIME}
 

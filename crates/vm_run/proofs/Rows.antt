@@ -53,11 +53,36 @@ of_block : (f : BlockContext → Item) (context : Context) (items : List Item) �
 of_block f Nothing items = tt
 of_block f (Block b) items = push (f b) items
 
-lines-take : (items : List Item) (lines : List (Bool × Row)) → AllByRecursion (λ line. TakesFrom items line.1) lines → TakesFrom items (first_line lines)
+abbrev AllTake : List Item → List (Bool × Row) → Type 0
+AllTake items lines = AllByRecursion (λ line. TakesFrom items line.1) lines
+
+lines-take : (items : List Item) (lines : List (Bool × Row)) → AllTake items lines → TakesFrom items (first_line lines)
 lines-take items [] takes = tt
 lines-take items (line ∷ lines) takes = either items line.0 line.1 (first_line lines) takes.0 (lines-take items lines takes.1)
+
+-- a fact in front of others
+infixr 40 ◌&◌
+◌&◌ : {A B : Type 0} → A → B → A × B
+first & rest = (first, rest)
 
 pub row-takes : (context : Context) (check : Check) (i : Decoded) (size : ℕ) (items alt : List Item) → TakesFrom items (row context check i size items alt)
 unfolding row
 row-takes context check i size items alt =
-    lines-take items (table context check i size items alt) (push i.pushed items, (push (num_bytes (negsuc 0)) items, (push (num_bytes (pos (i.code - 80))) items, (one verify_row verify items, (one drop_row dropped items, (one dup_row copied items, (two equal_row compared items, (numbers sum_item items, (numbers difference_item items, (numbers equality_item items, (numbers less_item items, (of_block (λ b. b.block_id) context items, (of_block (λ b. b.program) context items, (of_block (λ b. b.next_program) context items, (of_block (λ b. num_bytes (pos b.time)) context items, tt)))))))))))))))
+    lines-take items (table context check i size items alt) (
+    push i.pushed items
+    & push (num_bytes (negsuc 0)) items
+    & push (num_bytes (pos (i.code - 80))) items
+    & one verify_row verify items
+    & one drop_row dropped items
+    & one dup_row copied items
+    & two equal_row compared items
+    & numbers sum_item items
+    & numbers difference_item items
+    & numbers equality_item items
+    & numbers less_item items
+    & of_block (λ b. b.block_id) context items
+    & of_block (λ b. b.program) context items
+    & of_block (λ b. b.next_program) context items
+    & of_block (λ b. num_bytes (pos b.time)) context items
+    & tt
+    )
