@@ -9,6 +9,7 @@ use Rattle.outside.specs.Files.{Content, Write, WriteKind, Append, Replace, Read
 use Rattle.outside.specs.Crash.{State, Leads, LeftAfter}
 use Rattle.outside.specs.CrashLaws.{RunsJoin, DoneIsKept, OthersStay, StartsKept}
 
+-- a run taken apart, and put together again
 parted : (name : List ℕ) (ws vs : List Write) (old new : State) → Leads name (ws ++ vs) old new → (mid : State) × Leads name ws old mid × Leads name vs mid new
 parted name [] vs old new leads = (old, refl, leads)
 parted name (w ∷ ws) vs old new leads =
@@ -44,16 +45,19 @@ other_at : (b : Bool) (kind : WriteKind) (done : Bool) (bytes : List ℕ) (old l
 other_at true kind done bytes old left read now is reads leaves = absurd (false≢true (sym is))
 other_at false kind done bytes old left read now is reads leaves = (reads, leaves)
 
+-- such a step that changes nothing
 stays_at : (b : Bool) (kind : WriteKind) (done : Bool) (bytes : List ℕ) (old left : Content) → b ≡ false → MatchBool b (ReadsAfter kind done bytes old old) (old ≡ old) × MatchBool b (LeftAfter kind done bytes old old left) (left ≡ left)
 stays_at true kind done bytes old left is = absurd (false≢true (sym is))
 stays_at false kind done bytes old left is = (refl, refl)
 
+-- a write of another name
 abbrev Other : List ℕ → Write → Type 0
 Other name w = bytes_eq name w.name ≡ false
 
 same_state : (s t : State) → s.read ≡ t.read → s.left ≡ t.left → s ≡ t
 same_state s t reads leaves = λ i. record { read = reads i; left = leaves i }
 
+-- writes of other names, one after the other
 other_stays : (name : List ℕ) (ws : List Write) (old new : State) → All (Other name) ws → Leads name ws old new → new ≡ old
 other_stays name [] old new all leads = leads
 other_stays name (w ∷ ws) old new all leads =

@@ -10,6 +10,7 @@ use Rattle.outside.specs.Files.{Content, WriteKind, Append, Replace, ReadsAfter,
 use Rattle.outside.specs.MemFiles.{Contents}
 use Rattle.outside.specs.MemCalls.{content_after}
 
+-- at the written name after a write that was done
 after_done : (kind : WriteKind) (old : Content) (bytes : List ℕ) → ReadsAfter kind true bytes old (Some (content_after kind old bytes))
 after_done Append old bytes = refl
 after_done Replace old bytes = refl
@@ -26,6 +27,7 @@ AllRead-done kind m name bytes = λ q.
     let now = finite.get-insert nat_list_cmp_total m name (content_after kind (finite.get m name) bytes) q ∙ ap (λ b. cond b (Some (content_after kind (finite.get m name) bytes)) (finite.get m q)) (is_eq-slice_cmp q name) in
     rw now (done_at kind m name bytes q (bytes_eq q name) refl)
 
+-- at any name after a write that failed and did nothing
 nothing_at : (kind : WriteKind) (bytes : List ℕ) (old : Content) (b : Bool) → MatchBool b (ReadsAfter kind false bytes old old) (old ≡ old)
 nothing_at Append bytes old true = (0, inr (refl, refl))
 nothing_at Replace bytes old true = inl refl

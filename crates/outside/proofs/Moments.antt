@@ -10,6 +10,7 @@ abbrev Ends : List Write → List Write → List Write → List Write → Type 0
 Ends ws vs seen rest =
     ((r : List Write) × (ws ≡ seen ++ r) × (rest ≡ r ++ vs)) ⊎ ((later : List Write) × (seen ≡ ws ++ later) × (vs ≡ later ++ rest))
 
+-- both with one write more in front
 longer : (w v : Write) (ws vs seen rest : List Write) → w ≡ v → Ends ws vs seen rest → Ends (w ∷ ws) vs (v ∷ seen) rest
 longer w v ws vs seen rest same (inl (r, front, back)) =
     let all : w ∷ ws ≡ v ∷ (seen ++ r) = cc in
@@ -26,6 +27,7 @@ ends (w ∷ ws) vs (v ∷ seen) rest is =
     let others : ws ++ vs ≡ seen ++ rest = cc in
     longer w v ws vs seen rest first (ends ws vs seen rest others)
 
+-- a moment of the first part, or of the second after the whole first
 abbrev Either : List Write → List Write → List Write → Type 0
 Either ws vs seen = IsMoment ws seen ⊎ ((later : List Write) × IsMoment vs later × (seen ≡ ws ++ later))
 

@@ -13,10 +13,12 @@ use Rattle.std.specs.declared.alloc.Global.{Global}
 use Rattle.std.proofs.lemmas.Map.Text.{is_eq-slice_cmp, btree_map_updates_text}
 use Rattle.outside.specs.Begun.{contents_of}
 
+-- two names are the same text
 abbrev texts : List ℕ → List ℕ → Bool
 texts q k = eq_by_cmp (slice_cmp nat_cmp) q k
 
-pub find_viewed : (q : List ℕ) (es : List (String Global × Vec ℕ Global)) → finite.find (slice_cmp nat_cmp) q (map (λ e. (string_bytes e.0, e.1.items)) es) ≡ option_map (λ v. v.items) (lookup (is_at (λ k. slice_cmp nat_cmp q (string_bytes k))) es)
+-- a name finds the same among the entries as a map stores them and as contracts see them
+find_viewed : (q : List ℕ) (es : List (String Global × Vec ℕ Global)) → finite.find (slice_cmp nat_cmp) q (map (λ e. (string_bytes e.0, e.1.items)) es) ≡ option_map (λ v. v.items) (lookup (is_at (λ k. slice_cmp nat_cmp q (string_bytes k))) es)
 find_viewed q [] = refl
 find_viewed q (e ∷ es) =
     elim (texts q (string_bytes e.0)) as (λ b. cond b (Some e.1.items) (finite.find (slice_cmp nat_cmp) q (map (λ x. (string_bytes x.0, x.1.items)) es)) ≡ option_map (λ v. v.items) (cond b (Some e.1) (lookup (is_at (λ k. slice_cmp nat_cmp q (string_bytes k))) es))) [
@@ -28,10 +30,12 @@ find_viewed q (e ∷ es) =
 pub get-contents : (m : BTreeMap (String Global) (Vec ℕ Global)) (q : List ℕ) → finite.get (contents_of m) q ≡ option_map (λ v. v.items) (get_by_text m q)
 get-contents m q = finite.get-from_entries nat_list_cmp_total _ q ∙ find_viewed q m.entries
 
+-- a function of what a choice gives is a choice of what the function gives
 mapped : {A B : Type 0} (f : A → B) (b : Bool) (x : A) (o : Option A) → option_map f (cond b (Some x) o) ≡ cond b (Some (f x)) (option_map f o)
 mapped f true x o = refl
 mapped f false x o = refl
 
+-- equal bytes, tested one way and the other
 same_text : (bs q : List ℕ) → bytes_eq bs q ≡ texts q bs
 same_text bs q = sym (is_eq-slice_cmp bs q) ∙ (eq_by_cmp_equiv nat_list_cmp_total).symm bs q
 

@@ -1,5 +1,9 @@
 //! The outside world as two traits: files by name, and a sink for what is printed. Each tells as much of itself as it
 //! can: what it holds, what was asked of it, and how often it failed.
+//!
+//! `StdFiles` and `StdSink` are the files and the standard output of a runtime, which tell nothing of their contents.
+//! `MemFiles` and `MemSink` stand in for them in tests and tell everything. The functions without a body are laws of
+//! what a crash may leave.
 #![tactic(auto)]
 
 mod begun;
