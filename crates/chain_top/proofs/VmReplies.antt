@@ -1,7 +1,8 @@
 -- The replies to `vm`, by how its words are read.
 use Rattle.std.proofs.Common.{◌≡◌, ℕ, List, [], ◌∷◌, Option, Some, None, Result, Ok, Err, IfOk, refl, sym, ◌∙◌, ap}
 use Rattle.vm_num.specs.Item.{Item}
-use Rattle.vm_run.specs.Row.{Check, Nothing}
+use Rattle.vm_run.specs.Row.{Check}
+use Rattle.vm_run.specs.declared.context.Context.TheVariants.{Nothing}
 use Rattle.vm_run.proofs.Outcomes.{some_verdict}
 use Rattle.chain_top.specs.Word.{Word, hex_of, hex_words, on_hex, with_front}
 use Rattle.chain_top.specs.Line.{refused_hex, verdict_line}

@@ -1,5 +1,5 @@
 -- Decimal words, and what the parse of one gives.
-use Rattle.std.proofs.Common.{◌≡◌, ℕ, ◌<◌, ◌≤◌, ◌^◌, Bool, true, false, cond, List, [], ◌∷◌, length, Result, Ok, Err, Option, None, refl, arith, rules}
+use Rattle.std.proofs.Common.{◌≡◌, ℕ, ◌<◌, ◌≤◌, ◌^◌, Bool, true, false, cond, List, [], ◌∷◌, length, Result, Ok, Err, Option, Some, None, nat_le, ap, refl, arith, rules}
 use Rattle.std.proofs.lemmas.Str.Parse.{IsDigitsTest, IsNumeralModel, numerals_by_value, parse_digits}
 use Rattle.std.proofs.lemmas.Bool.Decides.{nat_tests}
 use Rattle.std.proofs.lemmas.Grind.{common_steps}
@@ -7,7 +7,11 @@ use Rattle.std.specs.List.{list_all}
 use Rattle.std.specs.Char.{is_ascii_digit}
 use Rattle.std.specs.Result.{OkIff}
 use Rattle.std.specs.Str.Parse.{digits_value, ParsesUnsigned}
-use Rattle.chain_top.specs.Word.{is_decimal, decimal_within}
+use Rattle.chain_top.specs.Word.{is_decimal, decimal_within, hex_of}
+use Rattle.hex.specs.Hex.{decode_of}
+use Rattle.hex.specs.declared.FromHexError.{FromHexError}
+use Rattle.hex.proofs.HexLemmas.{decode_of-ok}
+use Rattle.std.specs.Result.{result_ok}
 
 all_digits : List ℕ → Type 0
 all_digits ds = list_all is_ascii_digit ds ≡ true
@@ -32,3 +36,23 @@ parsed {E} bs (Err e) parses is = let h = parse_digits own {E = E} 64 bs (Err e)
 pub too_large : (bs : List ℕ) (most : ℕ) → is_decimal bs ≡ true → ¬ (digits_value 10 bs < 2 ^ 64) → most < 2 ^ 64 → None ≡ decimal_within most bs
 unfolding decimal_within
 too_large bs most is large below = let past : most < digits_value 10 bs = omega arith in grind (arith, nat_tests)
+
+by_test : {X : Type 0} (b : Bool) (o : Option X) (x : X) → cond b o None ≡ Some x → (b ≡ true) × (o ≡ Some x)
+by_test true o x is = (refl, is)
+by_test false o x is = cc
+
+decoded_short : (word bytes : List ℕ) (r : Result (List ℕ) FromHexError) → decode_of word ≡ r → result_ok r ≡ Some bytes → length word ≤ 131072 → length bytes ≤ 65536
+decoded_short word bytes (Ok decoded) is some short =
+    let twice = decode_of-ok word decoded is in
+    let same : decoded ≡ bytes = cc in
+    let long = ap length same in
+    omega (arith, twice.2)
+decoded_short word bytes (Err e) is some short = cc
+
+-- a hex word says at most 65,536 bytes
+pub hex_short : (word bytes : List ℕ) → hex_of word ≡ Some bytes → length bytes ≤ 65536
+unfolding hex_of
+hex_short word bytes is =
+    let tests = by_test (nat_le (length word) 131072) (result_ok (decode_of word)) bytes is in
+    let short : length word ≤ 131072 = grind (arith, nat_tests, tests.0) in
+    decoded_short word bytes (decode_of word) refl tests.1 short

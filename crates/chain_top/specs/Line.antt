@@ -20,6 +20,9 @@ abbrev pub verdict_line : Verdict → List ℕ
 verdict_line (Succeeded left) = codes "succeeded left " ++ decimal left ++ newline
 verdict_line (Failed kind at) = codes "failed " ++ failure_name kind ++ codes " at " ++ decimal at ++ newline
 
--- `block HEIGHT ID`
+-- `block HEIGHT ID`, with the id in hex
+abbrev pub block_line_of : ℕ → List ℕ → List ℕ
+block_line_of height hex = codes "block " ++ (decimal height ++ (codes " " ++ (hex ++ newline)))
+
 abbrev pub block_line : ℕ → List ℕ → List ℕ
-block_line height id = codes "block " ++ decimal height ++ codes " " ++ encode_lower id ++ newline
+block_line height id = block_line_of height (encode_lower id)

@@ -3,7 +3,8 @@ use Rattle.std.specs.Prelude.{◌≡◌, ℕ, List, [], ◌∷◌, ◌++◌, Opt
 use Rattle.outside.specs.Files.{Content, Read, Write, Replace, write_of}
 use Rattle.vm_num.specs.Item.{Item}
 use Rattle.vm_run.specs.declared.verdict.Verdict.{Verdict}
-use Rattle.vm_run.specs.Row.{Check, Nothing}
+use Rattle.vm_run.specs.Row.{Check}
+use Rattle.vm_run.specs.declared.context.Context.TheVariants.{Nothing}
 use Rattle.vm_run.specs.Verdict.{HasVerdict}
 use Rattle.chain_top.specs.Word.{Word, hex_of, hex_words}
 use Rattle.chain_top.specs.Command.{Command, Vm, Init, command_of}

@@ -72,7 +72,7 @@ fn run<F: Files, S: Sink, H: IdHash, C: SigCheck>(
             limit,
             program,
             args,
-        } => match vm_told(alloc, limit, program.as_str(), args) {
+        } => match vm_told(alloc, sigs, limit, program.as_str(), args) {
             Ok(told) => say(out, told.status, told.line.as_bytes()),
             Err(_) => NO_MEMORY,
         },

@@ -1,14 +1,14 @@
 // The command `vm`.
 ghost use Rattle.std.specs.Prelude.{◌≡◌, ◌+◌, ◌<◌, ◌≤◌, ◌^◌, length, map, string_bytes, string_len, IfOk};
-ghost use Rattle.vm_run.specs.Row.{Check};
 ghost use Rattle.chain_top.specs.Reply.{told, VmReply, TellsVerdict};
 ghost use Rattle.chain_top.specs.Line.{refused_hex};
 
 use crate::line::{refused_hex, verdict_line};
 use crate::say::{DONE, REFUSED};
 use crate::word::{HexFault, hex_word, hex_words};
+use keyed::SigCheck;
 use std::alloc::{AllocError, Global};
-use vm_run::{NoMemory, verify};
+use vm_run::{Context, NoMemory, verify};
 use wire::Args;
 
 /// A line to print, and the status behind it.
@@ -19,8 +19,9 @@ pub struct Told {
 }
 
 /// What `vm` prints for a program and its arguments.
-pub fn vm_told(
+pub fn vm_told<C: SigCheck>(
     alloc: Global,
+    sigs: &C,
     limit: u64,
     program: &str,
     args: &[String],
@@ -29,25 +30,31 @@ pub fn vm_told(
     requires few { length args.now + 3 < 2 ^ 64 }
     ensures line { IfOk result (λ t. 0 < string_len t.line) }
     ensures status { IfOk result (λ t. t.status ≤ 2) }
-    ensures tells { IfOk result (λ t. (check : Check) → VmReply check limit program.now (map string_bytes args.now) (told t.status (string_bytes t.line))) }
+    ensures tells { IfOk result (λ t. VmReply (C.good_of sigs.now) limit program.now (map string_bytes args.now) (told t.status (string_bytes t.line))) }
 {
     match hex_word(alloc, program)? {
         None => refused(alloc, 2),
         Some(program) => match hex_words(alloc, args, 3) {
-            Ok(args) => ran(alloc, limit, program.as_slice(), &args),
+            Ok(args) => ran(alloc, sigs, limit, program.as_slice(), &args),
             Err(HexFault::Misfit(place)) => refused(alloc, place),
             Err(HexFault::NoMemory) => Err(AllocError),
         },
     }
 }
 
-fn ran(alloc: Global, limit: u64, program: &[u8], args: &Args) -> Result<Told, AllocError>
+fn ran<C: SigCheck>(
+    alloc: Global,
+    sigs: &C,
+    limit: u64,
+    program: &[u8],
+    args: &Args,
+) -> Result<Told, AllocError>
     requires { limit ≤ 100000 }
     ensures line { IfOk result (λ t. 0 < string_len t.line) }
     ensures status { IfOk result (λ t. t.status ≤ 2) }
-    ensures tells { IfOk result (λ t. (check : Check) → TellsVerdict check limit program.now args.now t.status (string_bytes t.line)) }
+    ensures tells { IfOk result (λ t. TellsVerdict (C.good_of sigs.now) limit program.now args.now t.status (string_bytes t.line)) }
 {
-    match verify(alloc, program, args, limit) {
+    match verify(alloc, &Context::Nothing, sigs, program, args, limit) {
         Ok(verdict) => Ok(Told {
             status: DONE,
             line: verdict_line(alloc, &verdict)?,

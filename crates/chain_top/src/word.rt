@@ -1,5 +1,5 @@
 // Readings of words.
-ghost use Rattle.std.specs.Prelude.{◌≡◌, ◌+◌, ◌<◌, ◌≤◌, ◌^◌, length, IfSome, map, string_bytes, string_len};
+ghost use Rattle.std.specs.Prelude.{◌≡◌, ◌+◌, ◌<◌, ◌≤◌, ◌^◌, length, IfOk, IfSome, map, string_bytes, string_len};
 ghost use Rattle.std.specs.List.{list_all};
 ghost use Rattle.std.specs.Char.{is_ascii_digit};
 ghost use Rattle.chain_top.specs.Word.{is_decimal, decimal_within, hex_of, hex_words};
@@ -52,7 +52,8 @@ fn are_digits(word: &[u8]) -> bool
 /// The bytes of a hex word, or that it is none.
 #[tactic(auto, unfolding(crate::specs::Word::hex_of))]
 pub fn hex_word(alloc: Global, word: &str) -> Result<Option<Bytes>, AllocError>
-    ensures { ReadsHex word.now result }
+    ensures reads { ReadsHex word.now result }
+    ensures short { IfOk result (λ bytes. IfSome bytes (λ bytes. length bytes ≤ 65536)) }
 {
     if word.len() > HEX_MOST {
         return Ok(None);

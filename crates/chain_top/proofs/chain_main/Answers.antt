@@ -4,7 +4,8 @@ use Rattle.chain_top.specs.Seen.{seen_command, seen}
 use Rattle.chain_top.specs.Line.{usage_line}
 use Rattle.chain_top.specs.Reply.{Given, Reply, told, CommandReply}
 use Rattle.chain_top.specs.Answer.{world, Answers}
-use Rattle.chain_top.proofs.Answered.{Untouched, said-answers, given_of}
+use Rattle.chain_top.proofs.Answered.{said-answers, given_of}
+use Rattle.chain_top.proofs.Done.{Untouched}
 use Rattle.chain_top.proofs.chain_main.Goals as goal
 
 pub returns-in-None-clause-answers : goal.returns-in-None-clause-answers
@@ -15,8 +16,9 @@ returns-in-None-clause-answers g c =
     let after = at c.say.new.out c.args.files.now in
     let is : None ≡ command_of words = ap seen_command (sym c.in-None.is) ∙ c.command_of.ensures.reads in
     let check = g.C.SigCheck.good_of c.args.sigs.now in
-    said-answers (λ given reply. CommandReply check (command_of words) given reply) words before after (record { contents = refl; reads = refl; writes = refl; read_faults = refl; write_faults = refl }) 1 usage_line c.say.result
-    (subst (λ (o : Option Command). CommandReply check o (given_of before.contents words) (told 1 usage_line)) is refl) c.say.ensures
+    let hash = g.H.IdHash.hash_of c.args.hash.now in
+    said-answers (λ given reply. CommandReply hash check (command_of words) given reply) words before after (record { contents = refl; reads = refl; writes = refl; read_faults = refl; write_faults = refl }) 1 usage_line c.say.result
+    (subst (λ (o : Option Command). CommandReply hash check o (given_of before.contents words) (told 1 usage_line)) is refl) c.say.ensures
 
 pub returns-in-Some-clause-answers : goal.returns-in-Some-clause-answers
 returns-in-Some-clause-answers g c =
@@ -24,4 +26,5 @@ returns-in-Some-clause-answers g c =
     let at = world g.S.Sink.held g.S.Sink.faults g.F.Files.contents g.F.Files.reads g.F.Files.writes g.F.Files.read_faults g.F.Files.write_faults in
     let is = ap seen_command (sym c.in-Some.is) ∙ c.command_of.ensures.reads in
     let check = g.C.SigCheck.good_of c.args.sigs.now in
-    subst (λ (o : Option Command). Answers (λ given reply. CommandReply check o given reply) words (at c.args.out.now c.args.files.now) (at c.run.new.out c.run.new.files) c.run.result) is (c.run.ensures.answers words)
+    let hash = g.H.IdHash.hash_of c.args.hash.now in
+    subst (λ (o : Option Command). Answers (λ given reply. CommandReply hash check o given reply) words (at c.args.out.now c.args.files.now) (at c.run.new.out c.run.new.files) c.run.result) is (c.run.ensures.answers words)
