@@ -4,9 +4,9 @@ use std::test::Fail;
 // Codes that stand alone, behind one byte and before another.
 #[test]
 fn reads_plain_codes(rt: HostRuntime) -> Result<(), Fail> {
-    let codes: [u8; 26] = [
+    let codes: [u8; 30] = [
         0x00, 0x4f, 0x51, 0x52, 0x53, 0x54, 0x55, 0x56, 0x57, 0x58, 0x59, 0x5a, 0x5b, 0x5c, 0x5d,
-        0x5e, 0x5f, 0x60, 0x69, 0x75, 0x76, 0x87, 0x93, 0x94, 0x9c, 0x9f,
+        0x5e, 0x5f, 0x60, 0x69, 0x75, 0x76, 0x87, 0x93, 0x94, 0x9c, 0x9f, 0xaf, 0xc4, 0xcd, 0xce,
     ];
     for code in codes {
         let program = [0x51, code, 0xaa];
@@ -71,7 +71,7 @@ fn reads_data(rt: HostRuntime) -> Result<(), Fail> {
 
 #[test]
 fn tells_why_not(rt: HostRuntime) {
-    let rows: [(&[u8], u64, CodeFault); 24] = [
+    let rows: [(&[u8], u64, CodeFault); 26] = [
         // cut in the data
         (&[0x01], 0, CodeFault::Short),
         (&[0x02, 0x51], 0, CodeFault::Short),
@@ -98,6 +98,8 @@ fn tells_why_not(rt: HostRuntime) {
         (&[0x68], 0, CodeFault::BadOpcode),
         (&[0x77], 0, CodeFault::BadOpcode),
         (&[0x9d], 0, CodeFault::BadOpcode),
+        (&[0xae], 0, CodeFault::BadOpcode),
+        (&[0xc5], 0, CodeFault::BadOpcode),
         (&[0xff], 0, CodeFault::BadOpcode),
     ];
     for (program, at, fault) in rows {

@@ -1,4 +1,4 @@
--- What each instruction does: the code table.
+-- What each instruction does: the code table. What a program is run for, `Context`, is the type that the code has.
 use Rattle.std.specs.Prelude.{ℕ, ◌+◌, ◌-◌, ◌^◌, ◌<◌, ◌==◌, ◌&&◌, Bool, true, false, List, [], ◌∷◌, length, min, Option, Some, None, if◌then◌else◌, nat_le, bytes_eq, ℤ, pos, negsuc, int_lt}
 use Rattle.std.specs.Ordering.{int_eq}
 use Rattle.std.specs.Option.{option_map}
@@ -8,7 +8,6 @@ use Rattle.vm_num.specs.declared.failure.Failure.TheVariants.{Underflow, BadNumb
 use Rattle.vm_num.specs.declared.failure.Failure.TheVariants as failures
 use Rattle.vm_code.specs.Instruction.{Decoded}
 use Rattle.vm_code.specs.declared.codes.TheConstants.{NEGATIVE_ONE, ONE, SIXTEEN, PUSHDATA4, VERIFY, DROP, DUP, EQUAL, ADD, SUB, NUMEQUAL, LESSTHAN, BLOCKHASH, PROGRAM, NEXTPROGRAM, BLOCKTIME}
--- what a program is run for
 pub use Rattle.vm_run.specs.declared.context.Context.{Context}
 pub use Rattle.vm_run.specs.declared.context.Context.TheVariants.{Nothing, Block}
 pub use Rattle.vm_run.specs.declared.context.BlockContext.{BlockContext}
@@ -113,8 +112,8 @@ abbrev pub first_line : List (Bool × Row) → Row
 first_line [] = Faults BadOpcode
 first_line (line ∷ lines) = if line.0 then line.1 else first_line lines
 
--- The table: whether a line is that of an instruction's code, and the line, on the program's length and on the items of
--- the data stack and of the alt stack, the top first in each.
+-- The table: whether a line is that of an instruction's code, and the line, in a context, on the program's length and on
+-- the items of the data stack and of the alt stack, the top first in each.
 abbrev pub table : Context → Check → Decoded → ℕ → List Item → List Item → List (Bool × Row)
 table context check i size items alt =
     (nat_le i.code PUSHDATA4, push_row i.pushed)

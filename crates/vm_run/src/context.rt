@@ -9,7 +9,7 @@ pub struct BlockContext {
     pub program: Bytes,
     /// The program that the next block has to satisfy.
     pub next_program: Bytes,
-    /// When the block was made, in the unit that the chain has chosen.
+    /// When the block was made, in the unit that the chain has chosen. A run needs it to be below 2^63.
     pub time: u64,
 }
 

@@ -1,6 +1,10 @@
 // The expected places and limits are worked out by hand from the code table: an item costs 8 and its length, an
 // instruction its base, then the items that it pushes, and it gives back those that it pops.
+ghost use Rattle.std.specs.Prelude.{◌<◌, ◌^◌, unwrap_or, IfOk};
+ghost use Rattle.vm_run.specs.Row.{TimeFits};
+
 use super::*;
+use keyed::NoSigs;
 use std::alloc::Global;
 use std::test::Fail;
 use vm_num::{Failure, push_bytes};
@@ -117,7 +121,14 @@ fn charges_each_code(rt: HostRuntime) -> Result<(), Fail> {
     for (program, limit, verdict) in rows {
         assert!(rt; limit <= 100_000, "the limit");
         assert_eq!(rt;
-            verify(rt.alloc(), program, &no_args, limit)?,
+            verify(
+                rt.alloc(),
+                &Context::Nothing,
+                &NoSigs,
+                program,
+                &no_args,
+                limit
+            )?,
             verdict,
             "{program:?} at {limit}"
         );
@@ -193,7 +204,14 @@ fn tells_the_first_failure(rt: HostRuntime) -> Result<(), Fail> {
     for (program, deeper, top, limit, kind, at) in rows {
         assert!(rt; limit <= 100_000, "the limit");
         let args = args_of(rt.alloc(), deeper, top)?;
-        let verdict = verify(rt.alloc(), program, &args, limit)?;
+        let verdict = verify(
+            rt.alloc(),
+            &Context::Nothing,
+            &NoSigs,
+            program,
+            &args,
+            limit,
+        )?;
         assert_eq!(rt; verdict, failed(kind, at), "{program:?} at {limit}");
     }
     Ok(())
@@ -297,7 +315,14 @@ fn runs_whole_programs(rt: HostRuntime) -> Result<(), Fail> {
         assert!(rt; limit <= 100_000, "the limit");
         let args = args_of(rt.alloc(), deeper, top)?;
         assert_eq!(rt;
-            verify(rt.alloc(), program, &args, limit)?,
+            verify(
+                rt.alloc(),
+                &Context::Nothing,
+                &NoSigs,
+                program,
+                &args,
+                limit
+            )?,
             verdict,
             "{program:?}"
         );
@@ -322,8 +347,126 @@ fn runs_written_pushes(rt: HostRuntime) -> Result<(), Fail> {
         let item = vec![in rt.alloc(); 0xabu8; len as usize]?;
         let mut program = Vec::new(rt.alloc());
         push_bytes(&mut program, item.as_slice())?;
-        let verdict = verify(rt.alloc(), program.as_slice(), &no_args, 100_000)?;
+        let verdict = verify(
+            rt.alloc(),
+            &Context::Nothing,
+            &NoSigs,
+            program.as_slice(),
+            &no_args,
+            100_000,
+        )?;
         assert_eq!(rt; verdict, succeeded(left), "{len} bytes");
+    }
+    Ok(())
+}
+
+// The context of a block made at this time, and none without a time.
+fn context_of(alloc: Global, time: Option<u64>) -> Result<Context, NoMemory>
+    requires { unwrap_or time 0 < 2 ^ 63 }
+    ensures { IfOk result TimeFits }
+{
+    let Some(time) = time else {
+        return Ok(Context::Nothing);
+    };
+    let mut block_id = [0xab; 32];
+    block_id[0] = 0x01;
+    block_id[31] = 0x02;
+    Ok(Context::Block(BlockContext {
+        block_id,
+        program: Bytes::from_slice(alloc, &[0x51, 0xaa])?,
+        next_program: Bytes::from_slice(alloc, &[0x52, 0xbb, 0xcc])?,
+        time,
+    }))
+}
+
+// The code alone at a limit that is ample, at the least that suffices, and at one less; then its item against bytes.
+#[test]
+fn runs_in_a_block(rt: HostRuntime) -> Result<(), Fail> {
+    let no_args = Args::new(rt.alloc());
+    // BLOCKHASH, the push of the id, and EQUAL
+    let mut is_the_id = [0xab; 35];
+    is_the_id[0] = 0xaf;
+    is_the_id[1] = 0x20;
+    is_the_id[2] = 0x01;
+    is_the_id[33] = 0x02;
+    is_the_id[34] = 0x87;
+    let most = (1 << 63) - 1;
+    let rows: [(Option<u64>, &[u8], u64, Verdict); 38] = [
+        // BLOCKHASH: 1 and 40; 41 for each item, then 33, and 80 back for 9
+        (Some(1), &[0xaf], 100, succeeded(59)),
+        (Some(1), &[0xaf], 41, succeeded(0)),
+        (Some(1), &[0xaf], 40, failed(Failure::RunLimit, 0)),
+        (Some(1), &is_the_id, 1000, succeeded(956)),
+        // PROGRAM: 1 and 10; 11 for each item, then 3, and 20 back for 9
+        (Some(1), &[0xc4], 100, succeeded(89)),
+        (Some(1), &[0xc4], 11, succeeded(0)),
+        (Some(1), &[0xc4], 10, failed(Failure::RunLimit, 0)),
+        (Some(1), &[0xc4, 0x02, 0x51, 0xaa, 0x87], 100, succeeded(86)),
+        // NEXTPROGRAM: 1 and 11; 12 for each item, then 4, and 22 back for 9
+        (Some(1), &[0xcd], 100, succeeded(88)),
+        (Some(1), &[0xcd], 12, succeeded(0)),
+        (Some(1), &[0xcd], 11, failed(Failure::RunLimit, 0)),
+        (
+            Some(1),
+            &[0xcd, 0x03, 0x52, 0xbb, 0xcc, 0x87],
+            100,
+            succeeded(85),
+        ),
+        // BLOCKTIME of 0: 1 and 8, and the item is false; 9 for each item, then 1, and 16 back for 9
+        (Some(0), &[0xce], 100, failed(Failure::FalseResult, 1)),
+        (Some(0), &[0xce], 9, failed(Failure::FalseResult, 1)),
+        (Some(0), &[0xce], 8, failed(Failure::RunLimit, 0)),
+        (Some(0), &[0xce, 0x00, 0x87], 100, succeeded(88)),
+        // of 1: 1 and 9; 10 for each item, then 2, and 18 back for 9
+        (Some(1), &[0xce], 100, succeeded(90)),
+        (Some(1), &[0xce], 10, succeeded(0)),
+        (Some(1), &[0xce], 9, failed(Failure::RunLimit, 0)),
+        (Some(1), &[0xce, 0x51, 0x87], 100, succeeded(87)),
+        // of 128, which is one byte: the same
+        (Some(128), &[0xce], 100, succeeded(90)),
+        (Some(128), &[0xce], 10, succeeded(0)),
+        (Some(128), &[0xce], 9, failed(Failure::RunLimit, 0)),
+        (Some(128), &[0xce, 0x01, 0x80, 0x87], 100, succeeded(87)),
+        // of 2^63 - 1: 1 and 16; 17 for each item, then 9, and 32 back for 9
+        (Some(most), &[0xce], 100, succeeded(83)),
+        (Some(most), &[0xce], 17, succeeded(0)),
+        (Some(most), &[0xce], 16, failed(Failure::RunLimit, 0)),
+        (
+            Some(most),
+            &[
+                0xce, 0x08, 0xff, 0xff, 0xff, 0xff, 0xff, 0xff, 0xff, 0x7f, 0x87,
+            ],
+            100,
+            succeeded(80),
+        ),
+        // without a block
+        (None, &[0xaf], 100, failed(Failure::Context, 0)),
+        (None, &[0xc4], 100, failed(Failure::Context, 0)),
+        (None, &[0xcd], 100, failed(Failure::Context, 0)),
+        (None, &[0xce], 100, failed(Failure::Context, 0)),
+        // also where the limit is spent, but not where it is passed before
+        (None, &[0xaf], 0, failed(Failure::Context, 0)),
+        (None, &[0xce], 0, failed(Failure::Context, 0)),
+        (None, &[0x51, 0xc4], 10, failed(Failure::Context, 1)),
+        (None, &[0x51, 0xc4], 9, failed(Failure::RunLimit, 0)),
+        (
+            None,
+            &[0x02, 0x51, 0xaa, 0x75, 0xcd, 0x51],
+            100,
+            failed(Failure::Context, 4),
+        ),
+        // any other code does the same in a block: 1 and 9
+        (Some(1), &[0x51], 100, succeeded(90)),
+    ];
+    for (time, program, limit, verdict) in rows {
+        assert!(rt; limit <= 100_000, "the limit");
+        assert!(rt; time.unwrap_or(0) < 1 << 63, "the time");
+        let context = context_of(rt.alloc(), time)?;
+        assert_eq!(rt;
+            verify(rt.alloc(), &context, &NoSigs, program, &no_args, limit)?,
+            verdict,
+            "{program:?} at {limit}"
+        );
     }
     Ok(())
 }

@@ -23,7 +23,8 @@ pub enum Verdict {
 }
 
 /// Runs a program on its arguments, the first of them deepest, in a context and under a run limit. The arguments are paid
-/// for first; where the limit does not cover them, the program fails with `RunLimit` at 0.
+/// for first; where the limit does not cover them, the program fails with `RunLimit` at 0. `sigs` says which signatures
+/// are good; no instruction asks for one yet.
 pub fn verify<C: SigCheck>(
     alloc: Global,
     ctx: &Context,
