@@ -18,3 +18,6 @@ pub use strings::{put_varstring, take_varstring};
 
 /// The name of an entry or an asset: 32 raw bytes.
 pub type Id = [u8; 32];
+
+#[cfg(test)]
+mod tests;

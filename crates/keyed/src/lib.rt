@@ -1,0 +1,12 @@
+//! What a chain is given from outside to name and to trust: a hash for ids and a check of signatures. Each stands for
+//! one function of the object and the arguments, and every theorem above holds for any of them.
+#![tactic(auto)]
+
+mod hashes;
+mod signatures;
+
+pub use hashes::{IdHash, Sha256Id};
+pub use signatures::{NoSigs, SigCheck};
+
+#[cfg(test)]
+mod tests;
