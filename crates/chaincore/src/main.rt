@@ -20,7 +20,5 @@ fn main(rt: HostRuntime) -> ExitCode {
     };
     let mut files = StdFiles::new(&rt);
     let mut out = StdSink::new(&rt);
-    ExitCode::from(chain_main(
-        alloc, &words, &mut files, &mut out, &Sha256Id, &NoSigs,
-    ))
+    ExitCode::from(chain_main(alloc, &words, &mut files, &mut out, &Sha256Id, &NoSigs))
 }
