@@ -1,5 +1,5 @@
 -- An instruction lies within its program.
-use Rattle.std.proofs.Common.{◌≡◌, ℕ, eqb, ltb, ◌++◌, refl, Bool, true, false, cond, ◌+◌, ◌-◌, ◌<◌, ◌≤◌, List, length, take, drop, get_or, leb, Result, Ok, Err, IfOk, arith, sym, ap, subst, length-drop, ◌∙◌}
+use Rattle.std.proofs.Common.{◌≡◌, ℕ, eqb, ltb, ◌++◌, refl, Bool, true, false, cond, ◌+◌, ◌-◌, ◌<◌, ◌≤◌, List, length, take, drop, get_or, leb, Result, Ok, Err, IfOk, arith, subst, length-drop}
 use Rattle.std.proofs.lemmas.Bool.{cond_both, leb-true}
 use Rattle.vm_num.specs.Item.{Item, total_cost}
 use Rattle.vm_num.specs.declared.failure.Failure.TheVariants.{RunLimit}
