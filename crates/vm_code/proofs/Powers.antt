@@ -1,5 +1,5 @@
 -- How large a number of a few bytes is.
-use Rattle.std.proofs.Common.{ℕ, zero, suc, ◌+◌, ◌*◌, ◌^◌, ◌<◌, ◌≤◌, arith}
+use Rattle.std.proofs.Common.{ℕ, zero, suc, ◌^◌, ◌<◌, ◌≤◌, arith}
 
 pub three_bytes : (x n : ℕ) → x < 256 ^ n → n ≤ 3 → x < 2 ^ 24
 three_bytes x zero lt le = omega arith

@@ -1,7 +1,7 @@
 -- The instruction that stands at a place of a program.
-use Rattle.std.specs.Prelude.{◌≡◌, ℕ, ◌+◌, ◌*◌, ◌==◌, ◌||◌, ◌&&◌, Bool, List, [], ◌∷◌, length, take, drop, Result, Ok, Err, if◌then◌else◌, nat_le}
+use Rattle.std.specs.Prelude.{ℕ, ◌+◌, ◌*◌, ◌==◌, ◌||◌, ◌&&◌, Bool, List, [], ◌∷◌, length, take, drop, Result, Ok, Err, if◌then◌else◌, nat_le}
 use Rattle.std.specs.List.{list_any}
-use Rattle.vm_code.specs.declared.codes.TheConstants.{FALSE, DATA_MIN, DATA_MAX, PUSHDATA1, PUSHDATA2, PUSHDATA4, NEGATIVE_ONE, ONE, SIXTEEN, VERIFY, DROP, DUP, EQUAL, ADD, SUB, NUMEQUAL, LESSTHAN}
+use Rattle.vm_code.specs.declared.codes.TheConstants.{FALSE, DATA_MIN, DATA_MAX, PUSHDATA1, PUSHDATA2, PUSHDATA4, NEGATIVE_ONE, ONE, SIXTEEN, VERIFY, DROP, DUP, EQUAL, ADD, SUB, NUMEQUAL, LESSTHAN, BLOCKHASH, PROGRAM, NEXTPROGRAM, BLOCKTIME}
 
 -- its code, the bytes that it pushes if it is a data code, where it jumps if it is a jump, and how many bytes it takes
 pub record Decoded : Type 0 where
@@ -24,7 +24,7 @@ little_endian (b ∷ bs) = b + 256 * little_endian bs
 abbrev pub is_plain : ℕ → Bool
 is_plain code =
     (nat_le ONE code && nat_le code SIXTEEN)
-    || list_any (λ c. c == code) (FALSE ∷ NEGATIVE_ONE ∷ VERIFY ∷ DROP ∷ DUP ∷ EQUAL ∷ ADD ∷ SUB ∷ NUMEQUAL ∷ LESSTHAN ∷ [])
+    || list_any (λ c. c == code) (FALSE ∷ NEGATIVE_ONE ∷ VERIFY ∷ DROP ∷ DUP ∷ EQUAL ∷ ADD ∷ SUB ∷ NUMEQUAL ∷ LESSTHAN ∷ BLOCKHASH ∷ PROGRAM ∷ NEXTPROGRAM ∷ BLOCKTIME ∷ [])
 
 -- the code is the number of data bytes
 abbrev pub is_data : ℕ → Bool

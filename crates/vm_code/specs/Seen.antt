@@ -1,5 +1,5 @@
 -- What a contract sees of an instruction that was read.
-use Rattle.std.specs.Prelude.{◌≡◌, ℕ, Result, Ok, Err}
+use Rattle.std.specs.Prelude.{◌≡◌, Result, Ok, Err}
 use Rattle.vm_code.specs.declared.CodeFault.{CodeFault}
 use Rattle.vm_code.specs.declared.Instruction.{Instruction}
 use Rattle.vm_code.specs.declared.CodeFault.TheVariants as faults

@@ -34,3 +34,11 @@ pub const SUB: u8 = 0x94;
 pub const NUMEQUAL: u8 = 0x9c;
 /// Whether the deeper of two numbers is the less.
 pub const LESSTHAN: u8 = 0x9f;
+/// Pushes the id of the context's block.
+pub const BLOCKHASH: u8 = 0xaf;
+/// Pushes the outermost program of the context.
+pub const PROGRAM: u8 = 0xc4;
+/// Pushes the next program of the context's block.
+pub const NEXTPROGRAM: u8 = 0xcd;
+/// Pushes the time of the context's block.
+pub const BLOCKTIME: u8 = 0xce;

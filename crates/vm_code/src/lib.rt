@@ -11,8 +11,8 @@ mod data;
 mod tests;
 
 use codes::{
-    ADD, DATA_MAX, DATA_MIN, DROP, DUP, EQUAL, FALSE, LESSTHAN, NEGATIVE_ONE, NUMEQUAL, ONE,
-    PUSHDATA1, PUSHDATA2, PUSHDATA4, SIXTEEN, SUB, VERIFY,
+    ADD, BLOCKHASH, BLOCKTIME, DATA_MAX, DATA_MIN, DROP, DUP, EQUAL, FALSE, LESSTHAN, NEGATIVE_ONE,
+    NEXTPROGRAM, NUMEQUAL, ONE, PROGRAM, PUSHDATA1, PUSHDATA2, PUSHDATA4, SIXTEEN, SUB, VERIFY,
 };
 use data::{counted, counted_data};
 
@@ -86,5 +86,9 @@ fn is_plain(code: u8) -> bool
             | SUB
             | NUMEQUAL
             | LESSTHAN
+            | BLOCKHASH
+            | PROGRAM
+            | NEXTPROGRAM
+            | BLOCKTIME
     )
 }

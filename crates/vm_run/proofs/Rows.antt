@@ -3,7 +3,7 @@ use Rattle.std.proofs.Common.{◌≡◌, ℕ, ◌-◌, ◌≤◌, Bool, true, fa
 use Rattle.std.specs.List.{AllByRecursion}
 use Rattle.vm_num.specs.Item.{Item, num, num_bytes, is_true}
 use Rattle.vm_code.specs.Instruction.{Decoded}
-use Rattle.vm_run.specs.Row.{Context, Check, Row, Faults, Does, does, row, table, first_line, push_row, verify_row, drop_row, dup_row, equal_row, number_result, of_numbers, number_row, sum_item, difference_item, equality_item, less_item, on_one, on_two}
+use Rattle.vm_run.specs.Row.{Context, Check, Row, Faults, Does, does, row, table, first_line, push_row, verify_row, drop_row, dup_row, equal_row, number_result, of_numbers, number_row, sum_item, difference_item, equality_item, less_item, on_one, on_two, in_block, Nothing, Block, BlockContext}
 
 abbrev pub TakesFrom : List Item → Row → Type 0
 TakesFrom items (Faults kind) = Unit {0}
@@ -49,44 +49,40 @@ copied a items = (refl, omega arith)
 compared : (a b : Item) (items : List Item) → TakesFrom (b ∷ a ∷ items) (equal_row a b)
 compared a b items = (refl, omega arith)
 
-lines-take : (items : List Item) (lines : List (Bool × Row)) → AllByRecursion (λ line. TakesFrom items line.1) lines → TakesFrom items (first_line lines)
+of_block : (f : BlockContext → Item) (context : Context) (items : List Item) → TakesFrom items (in_block (λ b. push_row (f b)) context)
+of_block f Nothing items = tt
+of_block f (Block b) items = push (f b) items
+
+abbrev AllTake : List Item → List (Bool × Row) → Type 0
+AllTake items lines = AllByRecursion (λ line. TakesFrom items line.1) lines
+
+lines-take : (items : List Item) (lines : List (Bool × Row)) → AllTake items lines → TakesFrom items (first_line lines)
 lines-take items [] takes = tt
 lines-take items (line ∷ lines) takes = either items line.0 line.1 (first_line lines) takes.0 (lines-take items lines takes.1)
+
+-- a fact in front of others
+infixr 40 ◌&◌
+◌&◌ : {A B : Type 0} → A → B → A × B
+first & rest = (first, rest)
 
 pub row-takes : (context : Context) (check : Check) (i : Decoded) (size : ℕ) (items alt : List Item) → TakesFrom items (row context check i size items alt)
 unfolding row
 row-takes context check i size items alt =
     lines-take items (table context check i size items alt) (
-      push i.pushed items,
-      (
-        push (num_bytes (negsuc 0)) items,
-        (
-          push (num_bytes (pos (i.code - 80))) items,
-          (
-            one verify_row verify items,
-            (
-              one drop_row dropped items,
-              (
-                one dup_row copied items,
-                (
-                  two equal_row compared items,
-                  (
-                    numbers sum_item items,
-                    (
-                      numbers difference_item items,
-                      (
-                        numbers equality_item items,
-                        (
-                          numbers less_item items,
-                          tt,
-                        ),
-                      ),
-                    ),
-                  ),
-                ),
-              ),
-            ),
-          ),
-        ),
-      ),
+    push i.pushed items
+    & push (num_bytes (negsuc 0)) items
+    & push (num_bytes (pos (i.code - 80))) items
+    & one verify_row verify items
+    & one drop_row dropped items
+    & one dup_row copied items
+    & two equal_row compared items
+    & numbers sum_item items
+    & numbers difference_item items
+    & numbers equality_item items
+    & numbers less_item items
+    & of_block (λ b. b.block_id) context items
+    & of_block (λ b. b.program) context items
+    & of_block (λ b. b.next_program) context items
+    & of_block (λ b. num_bytes (pos b.time)) context items
+    & tt
     )

@@ -1,10 +1,17 @@
--- What the code answers for an instruction's operands.
+-- What the code answers for an instruction's operands, and for what it asks of the context.
 use Rattle.std.specs.Prelude.{◌≡◌, ◌<◌, ◌⊎◌, ℕ, ℤ, List, [], ◌∷◌, length, drop, Result, Ok, Err, Some, None}
 use Rattle.std.specs.Borrow.{Bor}
 use Rattle.vm_num.specs.Item.{Item, num}
 use Rattle.vm_num.specs.declared.failure.Failure.TheVariants.{Underflow, BadNumber}
+use Rattle.vm_num.specs.declared.failure.Failure.TheVariants as failures
+use Rattle.vm_run.specs.Row.{Context, Nothing, Block, BlockContext}
 use Rattle.vm_run.specs.declared.row.StepFault.{StepFault}
 use Rattle.vm_run.specs.declared.row.StepFault.TheVariants.{Failed}
+
+-- the block
+abbrev pub HasBlock : Context → Result (Bor BlockContext) StepFault → Type 0
+HasBlock context (Ok b) = context ≡ Block b.now
+HasBlock context (Err e) = (context ≡ Nothing) × (e ≡ Failed failures.Context)
 
 -- the top item
 abbrev pub HasOne : List Item → Result (Bor (List ℕ)) StepFault → Type 0

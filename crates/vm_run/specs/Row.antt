@@ -1,16 +1,22 @@
 -- What each instruction does: the code table.
-use Rattle.std.specs.Prelude.{ℕ, ◌+◌, ◌-◌, ◌==◌, ◌&&◌, Bool, true, false, List, [], ◌∷◌, length, min, Option, Some, None, if◌then◌else◌, nat_le, bytes_eq, ℤ, pos, negsuc, int_lt}
+use Rattle.std.specs.Prelude.{ℕ, ◌+◌, ◌-◌, ◌^◌, ◌<◌, ◌==◌, ◌&&◌, Bool, true, false, List, [], ◌∷◌, length, min, Option, Some, None, if◌then◌else◌, nat_le, bytes_eq, ℤ, pos, negsuc, int_lt}
 use Rattle.std.specs.Ordering.{int_eq}
 use Rattle.std.specs.Option.{option_map}
 use Rattle.vm_num.specs.Item.{Item, num, num_bytes, is_true, sum_of, difference_of}
 use Rattle.vm_num.specs.declared.failure.Failure.{Failure}
 use Rattle.vm_num.specs.declared.failure.Failure.TheVariants.{Underflow, BadNumber, Range, BadOpcode, VerifyFalse}
+use Rattle.vm_num.specs.declared.failure.Failure.TheVariants as failures
 use Rattle.vm_code.specs.Instruction.{Decoded}
-use Rattle.vm_code.specs.declared.codes.TheConstants.{NEGATIVE_ONE, ONE, SIXTEEN, PUSHDATA4, VERIFY, DROP, DUP, EQUAL, ADD, SUB, NUMEQUAL, LESSTHAN}
-
+use Rattle.vm_code.specs.declared.codes.TheConstants.{NEGATIVE_ONE, ONE, SIXTEEN, PUSHDATA4, VERIFY, DROP, DUP, EQUAL, ADD, SUB, NUMEQUAL, LESSTHAN, BLOCKHASH, PROGRAM, NEXTPROGRAM, BLOCKTIME}
 -- what a program is run for
-pub data Context : Type 0 where
-  Nothing : Context
+pub use Rattle.vm_run.specs.declared.context.Context.{Context}
+pub use Rattle.vm_run.specs.declared.context.Context.TheVariants.{Nothing, Block}
+pub use Rattle.vm_run.specs.declared.context.BlockContext.{BlockContext}
+
+-- the time of a context's block is a 64-bit number
+abbrev pub TimeFits : Context → Type 0
+TimeFits Nothing = Unit {0}
+TimeFits (Block b) = b.time < 2 ^ 63
 
 -- whether a signature is good, by the key, the message and the signature
 abbrev pub Check : Type 0
@@ -97,6 +103,11 @@ on_two line [] = Faults Underflow
 on_two line (b ∷ []) = Faults Underflow
 on_two line (b ∷ a ∷ items) = line a b
 
+-- a line that needs a block
+abbrev pub in_block : (BlockContext → Row) → Context → Row
+in_block line Nothing = Faults failures.Context
+in_block line (Block b) = line b
+
 -- the line of the first test that holds
 abbrev pub first_line : List (Bool × Row) → Row
 first_line [] = Faults BadOpcode
@@ -117,6 +128,10 @@ table context check i size items alt =
     ∷ (i.code == SUB, on_two (number_row difference_item) items)
     ∷ (i.code == NUMEQUAL, on_two (number_row equality_item) items)
     ∷ (i.code == LESSTHAN, on_two (number_row less_item) items)
+    ∷ (i.code == BLOCKHASH, in_block (λ b. push_row b.block_id) context)
+    ∷ (i.code == PROGRAM, in_block (λ b. push_row b.program) context)
+    ∷ (i.code == NEXTPROGRAM, in_block (λ b. push_row b.next_program) context)
+    ∷ (i.code == BLOCKTIME, in_block (λ b. push_row (num_bytes (pos b.time))) context)
     ∷ []
 
 unfoldable pub row : Context → Check → Decoded → ℕ → List Item → List Item → Row

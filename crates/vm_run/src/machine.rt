@@ -1,14 +1,15 @@
 // The state of a run, and one step of it.
 ghost use Rattle.std.specs.Prelude.{◌≡◌, ◌<◌, ◌≤◌, ◌+◌, ◌^◌, ℕ, List, [], length, take, reverse, IfOk, OnOk};
 ghost use Rattle.vm_num.specs.Item.{Item, total_cost};
-ghost use Rattle.vm_run.specs.Row.{Context, Check, row};
+ghost use Rattle.vm_run.specs.Row.{TimeFits, row};
 ghost use Rattle.vm_code.specs.Seen.{seen};
 ghost use Rattle.vm_run.specs.Run.{move, row_move, paid};
 ghost use Rattle.vm_run.specs.Gives.{Moves};
 
-use crate::NoMemory;
 use crate::row::{Effect, StepFault, row};
 use crate::stack::{Stack, cost_of};
+use crate::{Context, NoMemory};
+use keyed::SigCheck;
 use std::alloc::Global;
 use vm_code::{CodeFault, Instruction, next};
 use vm_num::Failure;
@@ -22,16 +23,23 @@ pub struct Machine {
 
 impl Machine {
     /// Runs the instruction at a place, and says which place is next.
-    pub fn step(&mut self, alloc: Global, program: &[u8], at: u64) -> Result<u64, StepFault>
+    pub fn step<C: SigCheck>(
+        &mut self,
+        alloc: Global,
+        ctx: &Context,
+        sigs: &C,
+        program: &[u8],
+        at: u64,
+    ) -> Result<u64, StepFault>
         requires place { at < length program.now }
         requires small { self.old.left + total_cost self.old.stack < 2 ^ 63 }
-        ensures moves { (context : Context) (check : Check) →
-            Moves result (move context check program.now at self.old.stack [] self.old.left) self.new.stack self.new.left }
+        requires time { TimeFits ctx.now }
+        ensures moves { Moves result (move ctx.now (C.good_of sigs.now) program.now at self.old.stack [] self.old.left) self.new.stack self.new.left }
         ensures small { OnOk result (self.new.left + total_cost self.new.stack < 2 ^ 63) }
         ensures place { IfOk result (λ next. (at < next) × (next ≤ length program.now)) }
     {
         match next(program, at) {
-            Ok(i) => self.complete(alloc, &i, at + i.len),
+            Ok(i) => self.complete(alloc, ctx, sigs, &i, at + i.len),
             Err(CodeFault::Short) => Err(StepFault::Failed(Failure::Short)),
             Err(CodeFault::BadOpcode) => Err(StepFault::Failed(Failure::BadOpcode)),
             Err(CodeFault::NoMemory) => Err(StepFault::NoMemory),
@@ -39,14 +47,22 @@ impl Machine {
     }
 
     // Runs an instruction behind which this place is next.
-    fn complete(&mut self, alloc: Global, i: &Instruction<'_>, place: u64) -> Result<u64, StepFault>
-        requires { self.old.left + total_cost self.old.stack < 2 ^ 63 }
-        ensures moves { (context : Context) (check : Check) (size : ℕ) →
-            Moves result (row_move place self.old.stack [] self.old.left (row context check (seen i.now) size self.old.stack [])) self.new.stack self.new.left }
+    fn complete<C: SigCheck>(
+        &mut self,
+        alloc: Global,
+        ctx: &Context,
+        sigs: &C,
+        i: &Instruction<'_>,
+        place: u64,
+    ) -> Result<u64, StepFault>
+        requires small { self.old.left + total_cost self.old.stack < 2 ^ 63 }
+        requires time { TimeFits ctx.now }
+        ensures moves { (size : ℕ) →
+            Moves result (row_move place self.old.stack [] self.old.left (row ctx.now (C.good_of sigs.now) (seen i.now) size self.old.stack [])) self.new.stack self.new.left }
         ensures small { OnOk result (self.new.left + total_cost self.new.stack < 2 ^ 63) }
         ensures place { IfOk result (λ next. next ≡ place) }
     {
-        match row(alloc, i, &self.stack) {
+        match row(alloc, ctx, sigs, i, &self.stack) {
             Ok(effect) => self.pay(effect, place),
             Err(fault) => Err(fault),
         }

@@ -1,18 +1,19 @@
 // The lines of the code table.
 ghost use Rattle.std.specs.Prelude.{◌≡◌, ℕ, List, [], ◌∷◌, length};
 ghost use Rattle.vm_num.specs.Item.{Item};
-ghost use Rattle.vm_run.specs.Row.{Context, Check, row, does, truth_item, verify_row, drop_row, dup_row, equal_row, number_row, sum_item, difference_item, equality_item, less_item};
+ghost use Rattle.vm_run.specs.Row.{TimeFits, row, does, truth_item, verify_row, drop_row, dup_row, equal_row, number_row, sum_item, difference_item, equality_item, less_item};
 ghost use Rattle.vm_run.specs.Gives.{Gives};
-ghost use Rattle.vm_run.specs.Operands.{HasOne, HasTwo, AreNumbers};
+ghost use Rattle.vm_run.specs.Operands.{HasBlock, HasOne, HasTwo, AreNumbers};
 ghost use Rattle.vm_code.specs.Seen.{seen};
 
-use crate::NoMemory;
 use crate::stack::Stack;
+use crate::{BlockContext, Context, NoMemory};
+use keyed::SigCheck;
 use std::alloc::Global;
 use vm_code::Instruction;
 use vm_code::codes::{
-    ADD, DROP, DUP, EQUAL, FALSE, LESSTHAN, NEGATIVE_ONE, NUMEQUAL, ONE, PUSHDATA4, SIXTEEN, SUB,
-    VERIFY,
+    ADD, BLOCKHASH, BLOCKTIME, DROP, DUP, EQUAL, FALSE, LESSTHAN, NEGATIVE_ONE, NEXTPROGRAM,
+    NUMEQUAL, ONE, PROGRAM, PUSHDATA4, SIXTEEN, SUB, VERIFY,
 };
 use vm_num::{Failure, add, read_num, sub, truth, write_num};
 use wire::{Args, Bytes};
@@ -65,8 +66,15 @@ impl From<Failure> for StepFault {
 
 /// The line of an instruction, on the items of a stack.
 #[tactic(auto, unfolding(crate::specs::Row::row))]
-pub fn row(alloc: Global, i: &Instruction<'_>, stack: &Stack) -> Result<Effect, StepFault>
-    ensures { (context : Context) (check : Check) (size : ℕ) (alt : List Item) → Gives result (row context check (seen i.now) size stack.now alt) }
+pub fn row<C: SigCheck>(
+    alloc: Global,
+    ctx: &Context,
+    _sigs: &C,
+    i: &Instruction<'_>,
+    stack: &Stack,
+) -> Result<Effect, StepFault>
+    requires { TimeFits ctx.now }
+    ensures { (size : ℕ) (alt : List Item) → Gives result (row ctx.now (C.good_of _sigs.now) (seen i.now) size stack.now alt) }
 {
     match i.code {
         FALSE..=PUSHDATA4 => one_push(alloc, 0, i.pushed, 1),
@@ -95,7 +103,20 @@ pub fn row(alloc: Global, i: &Instruction<'_>, stack: &Stack) -> Result<Effect, 
             let (a, b) = two(stack)?;
             lessthan_row(alloc, a, b)
         }
+        BLOCKHASH => one_push(alloc, 0, &block(ctx)?.block_id, 1),
+        PROGRAM => one_push(alloc, 0, block(ctx)?.program.as_slice(), 1),
+        NEXTPROGRAM => one_push(alloc, 0, block(ctx)?.next_program.as_slice(), 1),
+        BLOCKTIME => one_push(alloc, 0, write_num(block(ctx)?.time as i64).as_slice(), 1),
         _ => Err(StepFault::Failed(Failure::BadOpcode)),
+    }
+}
+
+fn block(ctx: &Context) -> Result<&BlockContext, StepFault>
+    ensures { HasBlock ctx.now result }
+{
+    match ctx {
+        Context::Block(block) => Ok(block),
+        Context::Nothing => Err(StepFault::Failed(Failure::Context)),
     }
 }
 

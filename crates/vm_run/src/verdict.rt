@@ -1,13 +1,14 @@
 ghost use Rattle.std.specs.Prelude.{◌≡◌, ◌+◌, ◌<◌, ◌≤◌, ◌^◌, [], IfOk};
 ghost use Rattle.vm_num.specs.Item.{total_cost};
-ghost use Rattle.vm_run.specs.Row.{Context, Check, Nothing};
+ghost use Rattle.vm_run.specs.Row.{TimeFits};
 ghost use Rattle.vm_run.specs.Run.{Outcome, Ended, count_of};
 ghost use Rattle.vm_run.specs.Verdict.{RunOn, HasVerdict, VerdictFrom, verdict_of};
 
-use crate::NoMemory;
 use crate::machine::Machine;
 use crate::row::StepFault;
 use crate::stack::{Stack, cost_of};
+use crate::{Context, NoMemory};
+use keyed::SigCheck;
 use std::alloc::Global;
 use vm_num::{Failure, truth};
 use wire::Args;
@@ -21,14 +22,22 @@ pub enum Verdict {
     Failed { kind: Failure, at: u64 },
 }
 
-/// Runs a program on its arguments, the first of them deepest, under a run limit. The arguments are paid for first;
-/// where the limit does not cover them, the program fails with `RunLimit` at 0.
-pub fn verify(alloc: Global, program: &[u8], args: &Args, limit: u64) -> Result<Verdict, NoMemory>
-    requires { limit ≤ 100000 }
-    ensures verdict { IfOk result (λ verdict. (check : Check) → HasVerdict Nothing check program.now args.now limit verdict) }
+/// Runs a program on its arguments, the first of them deepest, in a context and under a run limit. The arguments are paid
+/// for first; where the limit does not cover them, the program fails with `RunLimit` at 0.
+pub fn verify<C: SigCheck>(
+    alloc: Global,
+    ctx: &Context,
+    sigs: &C,
+    program: &[u8],
+    args: &Args,
+    limit: u64,
+) -> Result<Verdict, NoMemory>
+    requires limit { limit ≤ 100000 }
+    requires time { TimeFits ctx.now }
+    ensures verdict { IfOk result (HasVerdict ctx.now (C.good_of sigs.now) program.now args.now limit) }
 
     // No more instructions complete than the limit says.
-    ensures bounded { total_cost args.now ≤ limit → (check : Check) (outcome : Outcome) → RunOn Nothing check program.now args.now limit outcome → count_of outcome ≤ limit }
+    ensures bounded { total_cost args.now ≤ limit → (outcome : Outcome) → RunOn ctx.now (C.good_of sigs.now) program.now args.now limit outcome → count_of outcome ≤ limit }
 {
     let cost = cost_of(args.as_slice());
     if limit < cost {
@@ -41,17 +50,24 @@ pub fn verify(alloc: Global, program: &[u8], args: &Args, limit: u64) -> Result<
         stack: Stack::of(alloc, args.as_slice())?,
         left: limit - cost,
     };
-    run(alloc, program, machine)
+    run(alloc, ctx, sigs, program, machine)
 }
 
 // Runs a program from its start.
-fn run(alloc: Global, program: &[u8], mut machine: Machine) -> Result<Verdict, NoMemory>
-    requires { machine.left + total_cost machine.stack < 2 ^ 63 }
-    ensures { IfOk result (λ verdict. (context : Context) (check : Check) → VerdictFrom context check program.now 0 machine.stack machine.left verdict) }
+fn run<C: SigCheck>(
+    alloc: Global,
+    ctx: &Context,
+    sigs: &C,
+    program: &[u8],
+    mut machine: Machine,
+) -> Result<Verdict, NoMemory>
+    requires small { machine.left + total_cost machine.stack < 2 ^ 63 }
+    requires time { TimeFits ctx.now }
+    ensures { IfOk result (VerdictFrom ctx.now (C.good_of sigs.now) program.now 0 machine.stack machine.left) }
 {
     let mut at = 0;
     while at < program.len() as u64 {
-        match machine.step(alloc, program, at) {
+        match machine.step(alloc, ctx, sigs, program, at) {
             Ok(next) => at = next,
             Err(StepFault::Failed(kind)) => return Ok(Verdict::Failed { kind, at }),
             Err(StepFault::NoMemory) => return Err(NoMemory),
