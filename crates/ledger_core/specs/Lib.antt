@@ -1,0 +1,4 @@
+pub mod Held
+pub mod Refusal
+pub mod Chain
+pub mod Laws
