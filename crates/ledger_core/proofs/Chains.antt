@@ -53,6 +53,6 @@ pub heights : (hash : Hash) (check : Check) (blocks : List Block) (tip : Block) 
 heights hash check [] tip chain e = absurd chain
 heights hash check (initial ∷ later) tip chain e =
     let first : Counts (initial ∷ []) = λ t h.
-      let same : initial ≡ t = cc h in
-      ap (λ (b : Block). b.header.height) (sym same) ∙ height_of_initial hash initial chain.0 in
+    let same : initial ≡ t = cc h in
+    ap (λ (b : Block). b.header.height) (sym same) ∙ height_of_initial hash initial chain.0 in
     counts_on hash check (initial ∷ []) later first chain.1 tip e

@@ -13,8 +13,8 @@ pub stands_more : (hash : Hash) (check : Check) (ledger : Held) (block : Block) 
 stands_more hash check ledger block blocks id stands valid added is_id = record {
   chain = subst (Chain hash check) (sym added) (grows hash check ledger.blocks block stands.chain valid);
   tip_id = λ tip e.
-    let there = subst (λ (bs : List Block). tip_of bs ≡ Some tip) added e in
-    let both : Some block ≡ Some tip = sym (tip_of_more ledger.blocks block) ∙ there in
-    let same : block ≡ tip = cc both in
-    is_id ∙ ap (λ (b : Block). header_id hash b.header) same;
+      let there = subst (λ (bs : List Block). tip_of bs ≡ Some tip) added e in
+      let both : Some block ≡ Some tip = sym (tip_of_more ledger.blocks block) ∙ there in
+      let same : block ≡ tip = cc both in
+      is_id ∙ ap (λ (b : Block). header_id hash b.header) same;
 }

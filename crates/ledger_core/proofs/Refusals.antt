@@ -23,9 +23,10 @@ OneVerdict = (context : Context) (check : Check) (program : List ℕ) (args : Li
 pub some_refusal : SomeVerdict → (hash : Hash) (check : Check) (blocks : List Block) (block : Block) → 0 < length blocks → (line : Option BlockRefusal) × Refusal hash check blocks block line
 some_refusal verdicts hash check blocks block h =
     let tip = get_or blocks (length blocks - 1) block in
-    let v = verdicts (context_after hash tip.header block.header) check tip.header.next_program block.args run_limit in
-    (option_or (before_run_of hash tip.header block.header) (from_run_of hash block.header v.0),
-     record { tip = tip; is_tip = some_tip blocks block h; verdict = v.0; has_verdict = v.1; first = refl })
+    let v = verdicts (context_after hash tip.header block.header) check tip.header.next_program block.args run_limit in (
+      option_or (before_run_of hash tip.header block.header) (from_run_of hash block.header v.0),
+      record { tip = tip; is_tip = some_tip blocks block h; verdict = v.0; has_verdict = v.1; first = refl },
+    )
 
 pub one_refusal : OneVerdict → (hash : Hash) (check : Check) (blocks : List Block) (block : Block) (a b : Option BlockRefusal) → Refusal hash check blocks block a → Refusal hash check blocks block b → a ≡ b
 one_refusal verdicts hash check blocks block a b r s =

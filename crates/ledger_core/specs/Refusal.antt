@@ -1,10 +1,8 @@
 -- Which blocks start a chain, and which extend it.
-use Rattle.std.specs.Prelude.{◌≡◌, ℕ, ◌+◌, ◌-◌, ◌≤◌, ◌==◌, ◌&&◌, Bool, not, List, [], length, replicate, slice_get, Option, Some, None, if◌then◌else◌, nat_le, bytes_eq}
+use Rattle.std.specs.Prelude.{◌≡◌, ℕ, ◌+◌, ◌-◌, ◌==◌, ◌&&◌, Bool, not, List, [], length, replicate, slice_get, Option, Some, None, if◌then◌else◌, nat_le, bytes_eq}
 use Rattle.std.specs.Option.{option_or}
 use Rattle.data_model.specs.declared.header.Header.{Header}
 use Rattle.data_model.specs.declared.block.Block.{Block}
-use Rattle.data_model.specs.Spelling.{IsHeader}
-use Rattle.data_model.specs.Layout.{most_txs}
 use Rattle.entry_ids.specs.Entry.{header_id}
 use Rattle.vm_run.specs.declared.verdict.Verdict.{Verdict}
 use Rattle.vm_run.specs.declared.verdict.Verdict.TheVariants.{Succeeded, Failed}
@@ -23,12 +21,6 @@ use Rattle.ledger_core.specs.declared.refusal.OfferFault.TheVariants.{Refused, N
 -- a hash, as a function of bytes
 abbrev pub Hash : Type 0
 Hash = List ℕ → List ℕ
-
--- A block's header is within its limits, and it has at most as many transactions as a block may have. Nothing is asked of
--- its arguments.
-pub record IsWithinLimits (block : Block) : Type 0 where
-  pub header : IsHeader block.header
-  pub txs : length block.txs ≤ most_txs
 
 -- ---- the initial block
 

@@ -14,3 +14,5 @@ pub use ledger::{Ledger, Tip};
 pub use offer::Accepted;
 pub use refusal::{BlockRefusal, OfferFault, StartFault};
 
+#[cfg(test)]
+mod tests;

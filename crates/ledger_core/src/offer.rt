@@ -1,7 +1,8 @@
-ghost use Rattle.std.specs.Prelude.{◌≡◌, ◌<◌, ◌^◌, ◌++◌, [], ◌∷◌, length, IfOk, IfErr, OnOk, OnErr};
+ghost use Rattle.std.specs.Prelude.{◌≡◌, ◌<◌, ◌≤◌, ◌^◌, ◌++◌, [], ◌∷◌, length, IfOk, IfErr, OnOk, OnErr};
 ghost use Rattle.entry_ids.specs.Entry.{header_id};
+ghost use Rattle.data_model.specs.Layout.{most_txs};
 ghost use Rattle.data_model.specs.Spelling.{IsHeader};
-ghost use Rattle.ledger_core.specs.Refusal.{IsWithinLimits, Refuses, ValidNext, HasVerdictAfter, before_run_of, from_run_of};
+ghost use Rattle.ledger_core.specs.Refusal.{Refuses, ValidNext, HasVerdictAfter, before_run_of, from_run_of};
 ghost use Rattle.ledger_core.specs.Chain.{StandsFor};
 
 use crate::{BlockRefusal, Ledger, OfferFault};
@@ -34,7 +35,8 @@ impl Ledger {
         block: Block,
     ) -> Result<Accepted, OfferFault>
         requires stands { StandsFor (H.hash_of hash.now) (C.good_of sigs.now) self.old }
-        requires limits { IsWithinLimits block }
+        requires header { IsHeader block.header }
+        requires txs { length block.txs ≤ most_txs }
         requires room { length self.old.blocks < 2 ^ 40 }
         ensures valid { OnOk result (ValidNext (H.hash_of hash.now) (C.good_of sigs.now) self.old.blocks block) }
         ensures added { OnOk result (self.new.blocks ≡ self.old.blocks ++ block ∷ []) }
@@ -59,7 +61,7 @@ impl Ledger {
         block: &Block,
     ) -> Result<Id, OfferFault>
         requires stands { StandsFor (H.hash_of hash.now) (C.good_of sigs.now) self.now }
-        requires limits { IsWithinLimits block.now }
+        requires header { IsHeader block.now.header }
         requires room { length self.now.blocks < 2 ^ 40 }
         ensures valid { OnOk result (ValidNext (H.hash_of hash.now) (C.good_of sigs.now) self.now.blocks block.now) }
         ensures id { IfOk result (λ id. id ≡ header_id (H.hash_of hash.now) block.now.header) }
@@ -81,7 +83,12 @@ impl Ledger {
 
 // The first of the lines before the run that holds.
 #[tactic(auto, unfolding(crate::specs::Refusal::before_run_of))]
-fn before_run<H: IdHash>(hash: &H, tip: &Header, tip_id: &Id, header: &Header) -> Option<BlockRefusal>
+fn before_run<H: IdHash>(
+    hash: &H,
+    tip: &Header,
+    tip_id: &Id,
+    header: &Header,
+) -> Option<BlockRefusal>
     requires id { tip_id.now ≡ header_id (H.hash_of hash.now) tip.now }
     requires room { tip.now.height < 2 ^ 63 }
     ensures { result ≡ before_run_of (H.hash_of hash.now) tip.now header.now }
