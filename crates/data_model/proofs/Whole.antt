@@ -7,13 +7,15 @@ use Rattle.wire.specs.Spelling.{AreBytes}
 use Rattle.wire.specs.Laws.{VarintLaws, VarstringLaws}
 use Rattle.data_model.specs.declared.fault.DataKind.{DataKind}
 use Rattle.data_model.specs.declared.fault.DataKind.TheVariants.{Trailing}
+use Rattle.data_model.specs.declared.header.Header.{Header}
 use Rattle.data_model.specs.declared.block.Block.{Block}
 use Rattle.data_model.specs.Layout.{Layout, End, Then, Many, joined, block_layout, FirstFault, trailing}
-use Rattle.data_model.specs.Spelling.{IsBlock, block_spelling}
-use Rattle.data_model.specs.Reading.{◌>>=◌, Place, Fault, Reading, fault_here, ended, next_block_at, block_at}
+use Rattle.data_model.specs.Spelling.{IsHeader, IsBlock, header_spelling, block_spelling}
+use Rattle.data_model.specs.Reading.{◌>>=◌, Place, Fault, Reading, fault_here, ended, next_block_at, block_at, header_at}
 use Rattle.data_model.specs.Laws.{BlockLaws}
 use Rattle.data_model.proofs.Readers.{Passes, ReadsOn, fault_at, IsReader, bind_ok, bind_err}
-use Rattle.data_model.proofs.Records.{block_reader}
+use Rattle.data_model.proofs.Fields.{same_read}
+use Rattle.data_model.proofs.Records.{header_reader, block_reader}
 
 abbrev given : {X : Type 0} → X → Result X Fault
 given x = Ok x
@@ -133,11 +135,24 @@ module _ (numbers : VarintLaws) (strings : VarstringLaws) where
   one_fault : (bytes : List ℕ) (f g : Fault) → AreBytes bytes → FirstFault block_layout bytes f.at f.kind → FirstFault block_layout bytes g.at g.kind → f ≡ g
   one_fault bytes f g fits hf hg = same_refused f g (sym ((block_fault bytes f fits).1 hf) ∙ (block_fault bytes g fits).1 hg)
 
+  header_again : (a : Header) (x : List ℕ) → IsHeader a → header_at (record { at = 0; rest = header_spelling a ++ x }) ≡ Ok (a, record { at = 0 + length (header_spelling a); rest = x })
+  header_again a x h =
+      let p : Place = record { at = 0; rest = header_spelling a ++ x } in
+      let q : Place = record { at = 0 + length (header_spelling a); rest = x } in
+      let passes : Passes p (header_spelling a) q = record { bytes = refl; at = refl } in
+      (header_reader numbers strings).again p a (header_spelling a) q (h, refl) passes
+
+  one_header : (a b : Header) (x y : List ℕ) → IsHeader a → IsHeader b → header_spelling a ++ x ≡ header_spelling b ++ y → (a ≡ b) × (x ≡ y)
+  one_header a b x y ha hb e =
+      let same = same_read a b _ _ (sym (header_again a x ha) ∙ ap (λ (bytes : List ℕ). header_at (record { at = 0; rest = bytes })) e ∙ header_again b y hb) in
+      (same.0, ap (λ (p : Place). p.rest) same.1)
+
   pub block_laws : BlockLaws
   block_laws = record {
     spelled = block_spelled;
     again = λ block h. block_again (block_spelling block) block h refl;
     one_form = one_block;
+    one_header = one_header;
     fault = block_fault;
     one_fault = one_fault;
   }

@@ -1,9 +1,10 @@
 -- What holds of the reading of blocks.
-use Rattle.std.specs.Prelude.{◌≡◌, ℕ, ◌↔◌, List, Ok, Err}
+use Rattle.std.specs.Prelude.{◌≡◌, ℕ, ◌↔◌, ◌++◌, List, Ok, Err}
 use Rattle.wire.specs.Spelling.{AreBytes}
+use Rattle.data_model.specs.declared.header.Header.{Header}
 use Rattle.data_model.specs.declared.block.Block.{Block}
 use Rattle.data_model.specs.Layout.{FirstFault, block_layout}
-use Rattle.data_model.specs.Spelling.{IsBlock, block_spelling}
+use Rattle.data_model.specs.Spelling.{IsHeader, IsBlock, header_spelling, block_spelling}
 use Rattle.data_model.specs.Reading.{Fault, block_at}
 
 pub record BlockLaws : Type 0 where
@@ -13,6 +14,8 @@ pub record BlockLaws : Type 0 where
   pub again : (block : Block) → IsBlock block → block_at (block_spelling block) ≡ Ok block
   -- no two blocks have one spelling
   pub one_form : (a b : Block) → IsBlock a → IsBlock b → block_spelling a ≡ block_spelling b → a ≡ b
+  -- no header's spelling begins another's
+  pub one_header : (a b : Header) (x y : List ℕ) → IsHeader a → IsHeader b → header_spelling a ++ x ≡ header_spelling b ++ y → (a ≡ b) × (x ≡ y)
   -- what is told of other bytes is their first fault
   pub fault : (bytes : List ℕ) (f : Fault) → AreBytes bytes → (block_at bytes ≡ Err f) ↔ FirstFault block_layout bytes f.at f.kind
   -- bytes have at most one first fault
