@@ -5,7 +5,7 @@ use Rattle.vm_run.specs.Row.{Check}
 use Rattle.ledger_core.specs.Refusal.{Hash, ValidNext, tip_of, start_fault}
 use Rattle.ledger_core.specs.Chain.{GoesOn, Chain}
 use Rattle.ledger_core.proofs.Tips.{tip_of_more}
-use Rattle.ledger_core.proofs.Refusals.{height_of_next, height_of_initial}
+use Rattle.ledger_core.proofs.Valid.{height_of_next, height_of_initial}
 
 more_later : (hash : Hash) (check : Check) (before later : List Block) (block : Block) → GoesOn hash check before later → ValidNext hash check (before ++ later) block → GoesOn hash check before (later ++ block ∷ [])
 more_later hash check before [] block g v = (subst (λ (bs : List Block). ValidNext hash check bs block) (append-nil before) v, tt)

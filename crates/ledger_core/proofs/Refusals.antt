@@ -28,6 +28,18 @@ some_refusal verdicts hash check blocks block h =
       record { tip = tip; is_tip = some_tip blocks block h; verdict = v.0; has_verdict = v.1; first = refl },
     )
 
+-- a line before the run holds whatever the verdict is
+pub refusal_before_run : SomeVerdict → (hash : Hash) (check : Check) (blocks : List Block) (block tip : Block) (line : BlockRefusal) → tip_of blocks ≡ Some tip → Some line ≡ before_run_of hash tip.header block.header → Refusal hash check blocks block (Some line)
+refusal_before_run verdicts hash check blocks block tip line is_tip holds =
+    let v = verdicts (context_after hash tip.header block.header) check tip.header.next_program block.args run_limit in
+    record {
+      tip = tip;
+      is_tip = is_tip;
+      verdict = v.0;
+      has_verdict = v.1;
+      first = ap (λ first. option_or first (from_run_of hash block.header v.0)) holds;
+    }
+
 pub one_refusal : OneVerdict → (hash : Hash) (check : Check) (blocks : List Block) (block : Block) (a b : Option BlockRefusal) → Refusal hash check blocks block a → Refusal hash check blocks block b → a ≡ b
 one_refusal verdicts hash check blocks block a b r s =
     let both : Some r.tip ≡ Some s.tip = sym r.is_tip ∙ s.is_tip in
@@ -38,27 +50,3 @@ one_refusal verdicts hash check blocks block a b r s =
     ∙ ap (λ (tip : Block). option_or (before_run_of hash tip.header block.header) (from_run_of hash block.header r.verdict)) tips
     ∙ ap (λ (v : Verdict). option_or (before_run_of hash s.tip.header block.header) (from_run_of hash block.header v)) same
     ∙ sym s.first
-
--- ---- what a block without a refusal has
-
-none_before : (a b : Option BlockRefusal) → None ≡ option_or a b → a ≡ None
-none_before None b e = refl
-none_before (Some x) b e = cc
-
-passed : {X : Type 0} (test : Bool) (x : X) (rest : Option X) → cond (not test) (Some x) rest ≡ None → (test ≡ true) × (rest ≡ None)
-passed true x rest e = (refl, e)
-passed false x rest e = cc
-
-height_after : (hash : Hash) (tip header : Header) → before_run_of hash tip header ≡ None → header.height ≡ tip.height + 1
-unfolding before_run_of
-height_after hash tip header e = eqb-true _ _ (passed _ _ _ (passed _ _ _ e).1).0
-
-pub height_of_next : (hash : Hash) (check : Check) (blocks : List Block) (block tip : Block) → ValidNext hash check blocks block → tip_of blocks ≡ Some tip → block.header.height ≡ tip.header.height + 1
-height_of_next hash check blocks block tip v e =
-    let both : Some v.tip ≡ Some tip = sym v.is_tip ∙ e in
-    let tips : v.tip ≡ tip = cc both in
-    height_after hash v.tip.header block.header (none_before _ _ v.first) ∙ ap (λ (t : Block). t.header.height + 1) tips
-
-pub height_of_initial : (hash : Hash) (block : Block) → start_fault hash block ≡ None → block.header.height ≡ 1
-unfolding start_fault
-height_of_initial hash block e = eqb-true _ _ (passed _ _ _ e).0

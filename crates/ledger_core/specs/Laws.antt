@@ -1,15 +1,22 @@
 -- What holds of refusals, chains and offers.
-use Rattle.std.specs.Prelude.{◌≡◌, ℕ, ◌<◌, List, [], ◌∷◌, ◌++◌, length, Option, Some, None}
+use Rattle.std.specs.Prelude.{◌≡◌, ℕ, ◌<◌, ◌↔◌, List, [], ◌∷◌, ◌++◌, length, Option, Some, None}
 use Rattle.data_model.specs.declared.block.Block.{Block}
 use Rattle.vm_run.specs.Row.{Check}
 use Rattle.ledger_core.specs.declared.refusal.BlockRefusal.{BlockRefusal}
-use Rattle.ledger_core.specs.Refusal.{Hash, Refusal, ValidNext, tip_of}
+use Rattle.ledger_core.specs.Refusal.{Hash, start_fault, Refusal, ValidNext, tip_of}
+use Rattle.ledger_core.specs.Valid.{IsInitial, Extends}
 use Rattle.ledger_core.specs.Chain.{Chain, Accepted, after_offer}
 
 -- a block that is offered after some blocks has a refusal or none, and no two
 pub record RefusalLaws (hash : Hash) (check : Check) : Type 0 where
   pub some : (blocks : List Block) (block : Block) → 0 < length blocks → (line : Option BlockRefusal) × Refusal hash check blocks block line
   pub one : (blocks : List Block) (block : Block) (a b : Option BlockRefusal) → Refusal hash check blocks block a → Refusal hash check blocks block b → a ≡ b
+
+pub record ValidLaws (hash : Hash) (check : Check) : Type 0 where
+  -- a block without a fault is an initial block
+  pub initial : (block : Block) → (start_fault hash block ≡ None) ↔ IsInitial hash block
+  -- a block without a refusal extends the last block
+  pub next : (blocks : List Block) (block : Block) → ValidNext hash check blocks block ↔ ((tip : Block) × (tip_of blocks ≡ Some tip) × Extends hash check tip block)
 
 pub record ChainLaws (hash : Hash) (check : Check) : Type 0 where
   -- a chain has an initial block

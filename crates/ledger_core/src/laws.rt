@@ -1,7 +1,7 @@
 //! Laws of the definitions, each the contract of a function with nothing to do.
 ghost use Rattle.vm_run.specs.Row.{Check};
 ghost use Rattle.ledger_core.specs.Refusal.{Hash};
-ghost use Rattle.ledger_core.specs.Laws.{RefusalLaws, ChainLaws, OfferLaws};
+ghost use Rattle.ledger_core.specs.Laws.{RefusalLaws, ValidLaws, ChainLaws, OfferLaws};
 
 use vm_run::laws::one_verdict;
 
@@ -11,6 +11,11 @@ pub fn one_refusal()
 {
     one_verdict();
 }
+
+/// What the blocks have that start a chain, and those that extend one.
+pub fn valid_blocks()
+    ensures { (hash : Hash) (check : Check) → ValidLaws hash check }
+{}
 
 /// A chain grows by its valid next blocks, and in no other way.
 pub fn growing_chains()
