@@ -1,0 +1,5 @@
+pub mod Held
+pub mod Refusal
+pub mod Valid
+pub mod Chain
+pub mod Laws

@@ -1,0 +1,30 @@
+//! Laws of the definitions, each the contract of a function with nothing to do.
+ghost use Rattle.vm_run.specs.Row.{Check};
+ghost use Rattle.ledger_core.specs.Refusal.{Hash};
+ghost use Rattle.ledger_core.specs.Laws.{RefusalLaws, ValidLaws, ChainLaws, OfferLaws};
+
+use vm_run::laws::one_verdict;
+
+/// A block that is offered after some blocks has one refusal, or none.
+pub fn one_refusal()
+    ensures { (hash : Hash) (check : Check) → RefusalLaws hash check }
+{
+    one_verdict();
+}
+
+/// What the blocks have that start a chain, and those that extend one.
+pub fn valid_blocks()
+    ensures { (hash : Hash) (check : Check) → ValidLaws hash check }
+{}
+
+/// A chain grows by its valid next blocks, and in no other way.
+pub fn growing_chains()
+    ensures { (hash : Hash) (check : Check) → ChainLaws hash check }
+{}
+
+/// A list of offers has one outcome, and one offer more takes its turn at the end.
+pub fn accepted_offers()
+    ensures { (hash : Hash) (check : Check) → OfferLaws hash check }
+{
+    one_verdict();
+}

@@ -1,0 +1,72 @@
+ghost use Rattle.std.specs.Prelude.{◌≡◌, Some};
+ghost use Rattle.data_model.specs.declared.block.Block.{Block};
+ghost use Rattle.ledger_core.specs.Refusal.{tip_of};
+
+use data_model::{Block, Blocks};
+use std::marker::Model;
+use wire::Id;
+
+/// A chain of blocks, from its initial block on. It is seen as its blocks and the id of the last of them, and stands for
+/// the hash and the check of signatures that it was made with.
+#[derive(Debug, Drop)]
+pub struct Ledger {
+    pub(crate) blocks: Blocks,
+    pub(crate) tip_id: Id,
+}
+
+impl Model for Ledger {
+    ghost use Rattle.std.specs.Prelude.{◌<◌, length};
+    ghost use Rattle.ledger_core.specs.Held.{Held};
+
+    ghost Value = { Held };
+
+    ghost view = { λ ledger. record { blocks = ledger.blocks; tip_id = ledger.tip_id } };
+
+    ghost invariant = { λ ledger. 0 < length ledger.blocks };
+}
+
+/// The last block of a chain.
+#[derive(Clone, Copy, Debug)]
+pub struct Tip<'a> {
+    pub height: u64,
+    pub id: Id,
+    /// When the block was made, in the unit that the chain has chosen.
+    pub time: u64,
+    pub version: u64,
+    /// The program that the next block has to satisfy.
+    pub next_program: &'a [u8],
+}
+
+impl Ledger {
+    /// The last block. It takes no memory.
+    pub fn tip(&self) -> Tip<'_>
+        ensures block { (tip : Block) × (tip_of self.now.blocks ≡ Some tip) × (result.height ≡ tip.header.height) × (result.time ≡ tip.header.time) × (result.version ≡ tip.header.version) × (result.next_program.now ≡ tip.header.next_program) }
+        ensures id { result.id ≡ self.now.tip_id }
+    {
+        let block = self.tip_block();
+        Tip {
+            height: block.header.height,
+            id: self.tip_id,
+            time: block.header.time,
+            version: block.header.version,
+            next_program: block.header.next_program.as_slice(),
+        }
+    }
+
+    // The last block.
+    pub(crate) fn tip_block(&self) -> &Block
+        ensures { tip_of self.now.blocks ≡ Some result.now }
+    {
+        match self.blocks.as_slice().last() {
+            Some(block) => block,
+            None => unreachable!(),
+        }
+    }
+
+    /// The blocks, the initial one first. It takes no memory.
+    pub fn blocks(&self) -> &[Block]
+        ensures { result.now ≡ self.now.blocks }
+    {
+        self.blocks.as_slice()
+    }
+}

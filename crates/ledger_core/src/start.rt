@@ -1,0 +1,59 @@
+ghost use Rattle.std.specs.Prelude.{◌≡◌, [], ◌∷◌, IfOk, IfErr, Option, Some, None};
+ghost use Rattle.data_model.specs.Spelling.{IsHeader};
+ghost use Rattle.entry_ids.specs.Entry.{header_id};
+ghost use Rattle.vm_run.specs.Row.{Check};
+ghost use Rattle.ledger_core.specs.Refusal.{start_fault, RefusesStart};
+ghost use Rattle.ledger_core.specs.Chain.{StandsFor};
+
+use crate::{Ledger, StartFault};
+use data_model::{Block, Blocks};
+use entry_ids::block_id;
+use keyed::IdHash;
+use std::alloc::Global;
+
+impl Ledger {
+    /// The ledger of an initial block alone. A refused block is dropped.
+    pub fn start<H: IdHash>(alloc: Global, hash: &H, initial: Block) -> Result<Ledger, StartFault>
+        requires { IsHeader initial.header }
+        ensures initial { IfOk result (λ _. start_fault (H.hash_of hash.now) initial ≡ None) }
+        ensures blocks { IfOk result (λ ledger. ledger.blocks ≡ initial ∷ []) }
+        ensures id { IfOk result (λ ledger. ledger.tip_id ≡ header_id (H.hash_of hash.now) initial.header) }
+
+        // It stands for this hash, and for any check of signatures.
+        ensures stands { IfOk result (λ ledger. (check : Check) → StandsFor (H.hash_of hash.now) check ledger) }
+        ensures refused { IfErr result (λ fault. RefusesStart (H.hash_of hash.now) initial fault) }
+    {
+        if let Some(fault) = fault_of(hash, &initial) {
+            return Err(fault);
+        }
+        let tip_id = block_id(alloc, hash, &initial.header)?;
+        let mut blocks = Blocks::new(alloc);
+        blocks.push(initial)?;
+        Ok(Ledger { blocks, tip_id })
+    }
+}
+
+// The first of I1 to I5 that holds.
+#[tactic(auto, unfolding(crate::specs::Refusal::start_fault))]
+fn fault_of<H: IdHash>(hash: &H, block: &Block) -> Option<StartFault>
+    ensures { result ≡ start_fault (H.hash_of hash.now) block.now }
+{
+    let header = &block.header;
+    let empty = hash.hash(b"");
+    if header.height != 1 {
+        return Some(StartFault::HeightNotOne);
+    }
+    if header.previous != [0; 32] {
+        return Some(StartFault::PreviousNotZero);
+    }
+    if header.version != 1 {
+        return Some(StartFault::VersionNotOne);
+    }
+    if !block.txs.is_empty() || !block.args.is_empty() {
+        return Some(StartFault::NotEmpty);
+    }
+    if header.tx_root != empty || header.unspent_root != empty {
+        return Some(StartFault::RootsNotEmpty);
+    }
+    None
+}
