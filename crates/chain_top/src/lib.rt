@@ -9,6 +9,7 @@ ghost use Rattle.chain_top.specs.Word.{Word};
 
 mod command;
 mod init;
+pub mod laws;
 mod line;
 mod say;
 mod vm;
