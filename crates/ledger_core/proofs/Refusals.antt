@@ -1,15 +1,13 @@
 -- A block that is offered has one refusal, or none.
-use Rattle.std.proofs.Common.{◌≡◌, ℕ, ◌+◌, ◌-◌, ◌<◌, Bool, true, false, not, cond, eqb, List, length, get_or, Option, Some, None, refl, sym, ◌∙◌, ap, subst, arith}
-use Rattle.std.proofs.lemmas.Bool.{eqb-true}
+use Rattle.std.proofs.Common.{◌≡◌, ℕ, ◌-◌, ◌<◌, List, length, get_or, Option, Some, refl, sym, ◌∙◌, ap, subst}
 use Rattle.std.specs.Option.{option_or}
-use Rattle.data_model.specs.declared.header.Header.{Header}
 use Rattle.data_model.specs.declared.block.Block.{Block}
 use Rattle.vm_run.specs.declared.verdict.Verdict.{Verdict}
 use Rattle.vm_run.specs.declared.context.Context.{Context}
 use Rattle.vm_run.specs.Row.{Check}
 use Rattle.vm_run.specs.Verdict.{HasVerdict}
 use Rattle.ledger_core.specs.declared.refusal.BlockRefusal.{BlockRefusal}
-use Rattle.ledger_core.specs.Refusal.{Hash, Refusal, ValidNext, HasVerdictAfter, before_run_of, from_run_of, context_after, run_limit, start_fault, tip_of}
+use Rattle.ledger_core.specs.Refusal.{Hash, Refusal, HasVerdictAfter, before_run_of, from_run_of, context_after, run_limit, tip_of}
 use Rattle.ledger_core.proofs.Tips.{some_tip}
 
 -- each program has a verdict

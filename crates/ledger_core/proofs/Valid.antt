@@ -10,7 +10,6 @@ use Rattle.entry_ids.specs.Entry.{header_id}
 use Rattle.vm_run.specs.declared.verdict.Verdict.{Verdict}
 use Rattle.vm_run.specs.declared.verdict.Verdict.TheVariants.{Succeeded, Failed}
 use Rattle.vm_run.specs.Row.{Check}
-use Rattle.ledger_core.specs.declared.refusal.BlockRefusal.{BlockRefusal}
 use Rattle.ledger_core.specs.Refusal.{Hash, start_fault, before_run_of, from_run_of, HasVerdictAfter, ValidNext, tip_of}
 use Rattle.ledger_core.specs.Valid.{IsInitial, Extends}
 use Rattle.ledger_core.proofs.Lines.{passed, passes, failed, fails, none_both, both_of, empty_of}

@@ -1,5 +1,5 @@
 -- Chains, and what a list of offers makes of one.
-use Rattle.std.specs.Prelude.{◌≡◌, ℕ, List, [], ◌∷◌, ◌++◌, Option, Some, None}
+use Rattle.std.specs.Prelude.{◌≡◌, List, [], ◌∷◌, ◌++◌, Option, Some, None}
 use Rattle.data_model.specs.declared.block.Block.{Block}
 use Rattle.entry_ids.specs.Entry.{header_id}
 use Rattle.vm_run.specs.Row.{Check}

@@ -1,5 +1,5 @@
 -- Which blocks start a chain, and which extend it.
-use Rattle.std.specs.Prelude.{◌≡◌, ℕ, ◌+◌, ◌-◌, ◌==◌, ◌&&◌, Bool, not, List, [], length, replicate, slice_get, Option, Some, None, if◌then◌else◌, nat_le, bytes_eq}
+use Rattle.std.specs.Prelude.{◌≡◌, ℕ, ◌+◌, ◌-◌, ◌==◌, ◌&&◌, not, List, [], length, replicate, slice_get, Option, Some, None, if◌then◌else◌, nat_le, bytes_eq}
 use Rattle.std.specs.Option.{option_or}
 use Rattle.data_model.specs.declared.header.Header.{Header}
 use Rattle.data_model.specs.declared.block.Block.{Block}
