@@ -11,6 +11,8 @@ mod command;
 mod init;
 mod line;
 mod say;
+#[cfg(test)]
+mod tests;
 mod vm;
 mod word;
 
