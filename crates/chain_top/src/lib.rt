@@ -12,6 +12,8 @@ mod init;
 pub mod laws;
 mod line;
 mod say;
+#[cfg(test)]
+mod tests;
 mod vm;
 mod word;
 
