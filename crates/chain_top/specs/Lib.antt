@@ -1,5 +1,6 @@
 pub mod Answer
 pub mod Command
+pub mod Frames
 pub mod Line
 pub mod Reading
 pub mod Reply

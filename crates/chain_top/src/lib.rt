@@ -8,6 +8,7 @@ ghost use Rattle.chain_top.specs.Seen.{seen, HasLimit};
 ghost use Rattle.chain_top.specs.Word.{Word};
 
 mod command;
+mod frames;
 mod line;
 mod say;
 mod vm;
