@@ -144,3 +144,6 @@ pub fn kind_name(kind: DataKind) -> &'static str
         DataKind::Count => "Count",
     }
 }
+
+#[cfg(test)]
+mod tests;
