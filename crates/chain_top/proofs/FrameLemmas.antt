@@ -19,18 +19,18 @@ use Rattle.data_model.specs.Reading.{Fault, block_at}
 use Rattle.data_model.specs.Laws.{BlockLaws}
 use Rattle.chain_top.specs.declared.frames.FramesFault.{FramesFault}
 use Rattle.chain_top.specs.declared.frames.FramesFault.TheVariants.{At, NoMemory}
-use Rattle.chain_top.specs.Frames.{longest_frame, IsFramed, AreFramed, frame_spelling, file_spelling, FileFault, FrameFault, short, not_shortest, too_big, in_block, FirstFileFault, FileReadsAs, block_held, frame_held, frame_at, FileGives}
+use Rattle.chain_top.specs.Frames.{longest_frame, IsFramed, AreFramed, frame_spelling, file_spelling, FileFault, FrameFault, short, not_shortest, too_big, in_block, FirstFileFault, FileReadsAs, FileLaws, block_held, frame_held, frame_at, FileGives}
 
 -- ---- bytes
 
-AreBytes-behind : (front rest : List ℕ) → AreBytes (front ++ rest) → AreBytes rest
+pub AreBytes-behind : (front rest : List ℕ) → AreBytes (front ++ rest) → AreBytes rest
 AreBytes-behind [] rest h = h
 AreBytes-behind (b ∷ front) rest h = AreBytes-behind front rest (λ i. h (suc i))
 
 zero_is_byte : 0 < 256
 zero_is_byte = omega arith
 
-AreBytes-front : (front rest : List ℕ) → AreBytes (front ++ rest) → AreBytes front
+pub AreBytes-front : (front rest : List ℕ) → AreBytes (front ++ rest) → AreBytes front
 AreBytes-front [] rest h = λ i. zero_is_byte
 AreBytes-front (b ∷ front) rest h = λ i. byte b front i (h 0) (AreBytes-front front rest (λ j. h (suc j)))
   where
@@ -40,7 +40,7 @@ AreBytes-front (b ∷ front) rest h = λ i. byte b front i (h 0) (AreBytes-front
 
 -- ---- a fault stands in the bytes or at their end
 
-FirstFault-within : (layout : Layout) (bytes : List ℕ) (at : ℕ) (kind : DataKind) → FirstFault layout bytes at kind → at ≤ length bytes
+pub FirstFault-within : (layout : Layout) (bytes : List ℕ) (at : ℕ) (kind : DataKind) → FirstFault layout bytes at kind → at ≤ length bytes
 FirstFault-within layout bytes at why (trailing {b = b} {bytes = more}) = omega arith
 FirstFault-within layout bytes at why (here h) = omega arith
 FirstFault-within layout bytes at why (later {layout = l} front rest {place = place} s e h place_is) =
@@ -145,12 +145,12 @@ frame_err (Err d) f e = inl (d, refl, same_err (record { at = 0; kind = kind_of 
 abbrev Stops : List ℕ → Type 0
 Stops bytes = (f : Fault) × (frame_at bytes ≡ Err f)
 
-Stops-empty : Stops []
+pub Stops-empty : Stops []
 unfolding frame_at varstring_at varint_at groups_at
 Stops-empty = (record { at = 0; kind = Short }, refl)
 
 -- a fault of a frame stands in the bytes or at their end
-varstring-is : (x : List ℕ) → varstring x ≡ varint (length x) ++ x
+pub varstring-is : (x : List ℕ) → varstring x ≡ varint (length x) ++ x
 unfolding varstring
 varstring-is x = refl
 
@@ -234,7 +234,7 @@ module _ (strings : VarstringLaws) (laws : BlockLaws) where
   fault_stops : (bytes : List ℕ) (f : FileFault) (h : FirstFileFault bytes f) → AreBytes bytes → frame_at h.rest ≡ Err (record { at = h.place; kind = f.kind })
   fault_stops bytes f h fits = frame_told h.rest h.place f.kind (AreBytes-behind (file_spelling h.whole) h.rest (subst AreBytes h.spelled fits)) h.first
 
-  no_fault : (bytes : List ℕ) (blocks : List Block) (f : FileFault) → AreBytes bytes → AreFramed blocks → bytes ≡ file_spelling blocks → FirstFileFault bytes f → ⊥
+  pub no_fault : (bytes : List ℕ) (blocks : List Block) (f : FileFault) → AreBytes bytes → AreFramed blocks → bytes ≡ file_spelling blocks → FirstFileFault bytes f → ⊥
   no_fault bytes blocks f fits framed e h =
       let same = one_file blocks h.whole [] h.rest framed h.framed Stops-empty (record { at = h.place; kind = f.kind }, fault_stops bytes f h fits) (append-nil (file_spelling blocks) ∙ sym e ∙ h.spelled) in
       h.more (sym same.1)
@@ -243,7 +243,7 @@ module _ (strings : VarstringLaws) (laws : BlockLaws) where
   file_fault_is f g index at why =
       ap (λ (n : ℕ). fault_of n f.at f.kind) index ∙ ap (λ (n : ℕ). fault_of g.index n f.kind) at ∙ ap (λ (k : DataKind). fault_of g.index g.at k) why
 
-  one_fault : (bytes : List ℕ) (f g : FileFault) → AreBytes bytes → FirstFileFault bytes f → FirstFileFault bytes g → f ≡ g
+  pub one_fault : (bytes : List ℕ) (f g : FileFault) → AreBytes bytes → FirstFileFault bytes f → FirstFileFault bytes g → f ≡ g
   one_fault bytes f g fits hf hg =
       let of = fault_stops bytes f hf fits in
       let og = fault_stops bytes g hg fits in
@@ -258,12 +258,6 @@ module _ (strings : VarstringLaws) (laws : BlockLaws) where
   one_reading bytes (Ok xs) (Err g) fits hr hs = absurd (no_fault bytes xs g fits hr.0 hr.1 hs)
   one_reading bytes (Err f) (Ok ys) fits hr hs = absurd (no_fault bytes ys f fits hs.0 hs.1 hr)
   one_reading bytes (Err f) (Err g) fits hr hs = ap (λ (h : FileFault). Err h) (one_fault bytes f g fits hr hs)
-
-  -- what was read is what is told of the bytes
-  pub file_gives : (bytes : List ℕ) (result : Result (List Block) FramesFault) (reading : Result (List Block) FileFault) → AreBytes bytes → IfOk result (λ blocks. AreFramed blocks × (bytes ≡ file_spelling blocks)) → ((f : FileFault) → result ≡ Err (At f.index f.at f.kind) → FirstFileFault bytes f) → FileReadsAs bytes reading → FileGives result reading
-  file_gives bytes (Ok blocks) reading fits found fault h = one_reading bytes reading (Ok blocks) fits h found
-  file_gives bytes (Err (At index at why)) reading fits found fault h = one_reading bytes reading (Err (fault_of index at why)) fits h (fault (fault_of index at why) refl)
-  file_gives bytes (Err NoMemory) reading fits found fault h = tt
 
 -- ---- the reading of a file
 
@@ -292,3 +286,9 @@ fault_behind bytes blocks rest place why index at kind f framed spelled more fir
       index = sym same.0 ∙ index_is;
       at = omega (arith, same.1, at_is, ap length spelled, length-append (file_spelling blocks) rest);
     }
+
+-- what was read is what is told of the bytes
+pub file_gives : (laws : FileLaws) (bytes : List ℕ) (result : Result (List Block) FramesFault) (reading : Result (List Block) FileFault) → AreBytes bytes → IfOk result (λ blocks. AreFramed blocks × (bytes ≡ file_spelling blocks)) → ((f : FileFault) → result ≡ Err (At f.index f.at f.kind) → FirstFileFault bytes f) → FileReadsAs bytes reading → FileGives result reading
+file_gives laws bytes (Ok blocks) reading fits found fault h = laws.one_reading bytes reading (Ok blocks) fits h found
+file_gives laws bytes (Err (At index at why)) reading fits found fault h = laws.one_reading bytes reading (Err (fault_of index at why)) fits h (fault (fault_of index at why) refl)
+file_gives laws bytes (Err NoMemory) reading fits found fault h = tt

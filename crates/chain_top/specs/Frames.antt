@@ -1,7 +1,7 @@
 -- A file of blocks: frames one after the other, each a length and the block that so many bytes spell.
-use Rattle.std.specs.Prelude.{◌≡◌, ◌≢◌, ℕ, ◌+◌, ◌≤◌, List, [], ◌++◌, length, drop, Result, Ok, Err, codes}
+use Rattle.std.specs.Prelude.{◌≡◌, ◌≢◌, ℕ, ◌+◌, ◌≤◌, ◌<◌, List, [], ◌∷◌, ◌++◌, length, take, drop, Result, Ok, Err, codes}
 use Rattle.std.specs.List.{flat_map, AllByRecursion}
-use Rattle.wire.specs.Spelling.{varint, varstring}
+use Rattle.wire.specs.Spelling.{AreBytes, varint, varstring}
 use Rattle.wire.specs.Reading.{Read, varstring_at, IsTooBigString, IsNotShortest, IsShortString}
 use Rattle.data_model.specs.declared.block.Block.{Block}
 use Rattle.data_model.specs.declared.fault.DataKind.{DataKind}
@@ -70,6 +70,28 @@ pub record FirstFileFault (bytes : List ℕ) (fault : FileFault) : Type 0 where
 abbrev pub FileReadsAs : List ℕ → Result (List Block) FileFault → Type 0
 FileReadsAs bytes (Ok blocks) = AreFramed blocks × (bytes ≡ file_spelling blocks)
 FileReadsAs bytes (Err fault) = FirstFileFault bytes fault
+
+-- ---- laws
+
+pub record FileLaws : Type 0 where
+  -- each block within its limits is short enough for a frame
+  pub framed : (block : Block) → IsBlock block → IsFramed block
+  -- all bytes read as something
+  pub reads : (bytes : List ℕ) → AreBytes bytes → (reading : Result (List Block) FileFault) × FileReadsAs bytes reading
+  -- and as one thing
+  pub one_reading : (bytes : List ℕ) (r s : Result (List Block) FileFault) → AreBytes bytes → FileReadsAs bytes r → FileReadsAs bytes s → r ≡ s
+  -- no two lists of blocks have one file
+  pub one_form : (xs ys : List Block) → AreFramed xs → AreFramed ys → file_spelling xs ≡ file_spelling ys → xs ≡ ys
+  -- files one behind the other are a file of all their blocks
+  pub joined : (a b : List ℕ) (xs ys : List Block) → FileReadsAs a (Ok xs) → FileReadsAs b (Ok ys) → FileReadsAs (a ++ b) (Ok (xs ++ ys))
+  -- a file of some blocks and others is the file of the some and the file of the others
+  pub parted : (bytes : List ℕ) (xs ys : List Block) → FileReadsAs bytes (Ok (xs ++ ys)) → (a : List ℕ) × (b : List ℕ) × (bytes ≡ a ++ b) × FileReadsAs a (Ok xs) × FileReadsAs b (Ok ys)
+  -- a frame behind a file
+  pub pushed : (bytes : List ℕ) (blocks : List Block) (block : Block) → FileReadsAs bytes (Ok blocks) → IsFramed block → FileReadsAs (bytes ++ frame_spelling block) (Ok (blocks ++ block ∷ []))
+  -- a fault behind a file
+  pub behind : (a b : List ℕ) (xs : List Block) (f : FileFault) → FileReadsAs a (Ok xs) → FirstFileFault b f → FirstFileFault (a ++ b) (record { index = length xs + f.index; at = length a + f.at; kind = f.kind })
+  -- a frame behind a file, of which only some first bytes are there, is short at its first byte
+  pub torn : (bytes : List ℕ) (blocks : List Block) (block : Block) (k : ℕ) → FileReadsAs bytes (Ok blocks) → IsFramed block → 0 < k → k < length (frame_spelling block) → FirstFileFault (bytes ++ take k (frame_spelling block)) (record { index = length blocks; at = length bytes; kind = Short })
 
 -- ---- the frame at the front of bytes, as a function of them
 

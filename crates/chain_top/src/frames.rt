@@ -4,7 +4,7 @@ ghost use Rattle.data_model.specs.declared.block.Block.{Block};
 ghost use Rattle.data_model.specs.Spelling.{IsBlock};
 ghost use Rattle.data_model.specs.Reading.{Fault};
 ghost use Rattle.chain_top.specs.declared.frames.FramesFault.TheVariants.{NoMemory};
-ghost use Rattle.chain_top.specs.Frames.{IsFramed, AreFramed, frame_spelling, file_spelling, FileFault, FrameFault, FirstFileFault, FrameGives, FileGives, frame_at, kind_name};
+ghost use Rattle.chain_top.specs.Frames.{IsFramed, AreFramed, frame_spelling, file_spelling, FileFault, FrameFault, FirstFileFault, FileLaws, FrameGives, FileGives, frame_at, kind_name};
 
 use data_model::{Block, Blocks, DataFault, DataKind, block_readings, decode_block, encode_block};
 use std::alloc::Global;
@@ -53,8 +53,7 @@ pub fn read_frames(alloc: Global, bytes: &[u8]) -> Result<Blocks, FramesFault>
     ensures fault { (f : FileFault) → result ≡ Err (FramesFault.At f.index f.at f.kind) → FirstFileFault bytes.now f }
     ensures told { (f : FileFault) → FirstFileFault bytes.now f → FileGives result (Err f) }
 {
-    spellings();
-    block_readings();
+    file_readings();
     all_frames(alloc, bytes)
 }
 
@@ -128,6 +127,14 @@ fn front_frame(alloc: Global, bytes: &[u8]) -> Result<(Block, u64), DataFault>
         }),
         Err(DataFault::NoMemory) => Err(DataFault::NoMemory),
     }
+}
+
+/// The laws of reading files of blocks, for the proofs of callers. It does nothing when it runs.
+pub fn file_readings()
+    ensures { FileLaws }
+{
+    spellings();
+    block_readings();
 }
 
 /// The name of a kind, as it is printed.

@@ -16,7 +16,7 @@ overflow_add-result c =
     let fault : Fault = record { at = c.in-Err-At.at; kind = c.in-Err-At.kind } in
     let is : refused c.in-Err-At.field-0 ≡ refused (At c.in-Err-At.at c.in-Err-At.kind) = ap refused c.in-Err-At.field-0-is in
     let within = FrameFault-within c.loop-rest.rest.now c.in-Err-At.at c.in-Err-At.kind (c.in-Err-At.ensures.fault fault is) in
-    omega (arith, within, ap length c.loop-rest.invariant.spelled, length-append (file_spelling c.loop-rest.blocks) c.loop-rest.rest.now)
+    omega (arith, within, ap length c.loop-rest.invariant.spelled, length-append {A = ℕ})
 
 pub returns-in-Err-At-clause-fault : goal.returns-in-Err-At-clause-fault
 returns-in-Err-At-clause-fault c = λ f e.
