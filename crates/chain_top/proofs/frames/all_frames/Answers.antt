@@ -23,4 +23,4 @@ returns-in-Err-At-clause-fault c = λ f e.
     (let fault : Fault = record { at = c.in-Err-At.at; kind = c.in-Err-At.kind } in
     let is : refused c.in-Err-At.field-0 ≡ refused (At c.in-Err-At.at c.in-Err-At.kind) = ap refused c.in-Err-At.field-0-is in
     let more = not_empty c.loop-rest.rest.now c.is_empty.result c.loop-rest-test.true c.is_empty.ensures in
-    fault_behind c.args.bytes.now c.loop-rest.blocks c.loop-rest.rest.now c.in-Err-At.at c.in-Err-At.kind _ _ _ f c.loop-rest.invariant.framed c.loop-rest.invariant.spelled more (c.in-Err-At.ensures.fault fault is) (omega arith) (omega arith) (cc) e)
+    fault_behind c.args.bytes.now _ c.loop-rest.rest.now c.in-Err-At.at c.in-Err-At.kind _ _ _ f c.loop-rest.invariant.framed c.loop-rest.invariant.spelled more (c.in-Err-At.ensures.fault fault is) (omega arith) (omega arith) (cc) e)
