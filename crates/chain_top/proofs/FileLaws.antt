@@ -1,23 +1,20 @@
 -- Files of blocks that are joined, and files that are torn.
-use Rattle.std.proofs.Common.{◌≡◌, ◌≢◌, ℕ, zero, suc, ◌+◌, ◌-◌, ◌/◌, ◌%◌, ◌^◌, ◌≤◌, ◌<◌, List, [], ◌∷◌, ◌++◌, length, take, drop, get_or, Result, Ok, Err, refl, sym, ap, subst, ◌∙◌, append_assoc, inl, inr, arith}
-use Rattle.std.specs.Prelude.{◌⊎◌}
-use Rattle.std.specs.List.{flat_map, AllByRecursion}
+use Rattle.std.proofs.Common.{◌≡◌, ℕ, zero, suc, ◌+◌, ◌-◌, ◌/◌, ◌%◌, ◌^◌, ◌≤◌, ◌<◌, List, [], ◌∷◌, ◌++◌, length, take, get_or, Result, Ok, Err, refl, sym, ap, subst, ◌∙◌, append_assoc, inl, inr, arith}
 use Rattle.std.proofs.lemmas.Bool.{cases_lt}
 use Rattle.std.proofs.lemmas.List.{length-append, length-take, take-append-le, append-nil}
 use Rattle.std.proofs.lemmas.Grind.{flat_map-append}
 use Rattle.std.proofs.Math.Seq.{take-append-add}
 use Rattle.wire.specs.Spelling.{AreBytes, varint, varstring}
-use Rattle.wire.specs.Reading.{HighFront, IsShort, IsShortString}
+use Rattle.wire.specs.Reading.{IsShort, IsShortString}
 use Rattle.wire.specs.Laws.{VarintLaws, VarstringLaws}
 use Rattle.data_model.specs.declared.block.Block.{Block}
-use Rattle.data_model.specs.declared.fault.DataKind.{DataKind}
 use Rattle.data_model.specs.declared.fault.DataKind.TheVariants.{Short}
 use Rattle.data_model.specs.Spelling.{block_spelling}
 use Rattle.data_model.specs.Reading.{Fault}
 use Rattle.data_model.specs.Laws.{BlockLaws}
 use Rattle.chain_top.specs.Frames.{longest_frame, IsFramed, AreFramed, frame_spelling, file_spelling, FileFault, FrameFault, short, FirstFileFault, FileReadsAs, FileLaws, frame_at}
 use Rattle.chain_top.proofs.FrameLengths.{IsFramed-block}
-use Rattle.chain_top.proofs.FrameLemmas.{one_form, one_reading, AreBytes-behind, AreFramed-push, varstring-is, frame_spelled, frame_fault}
+use Rattle.chain_top.proofs.FrameLemmas.{one_form, one_reading, AreBytes-behind, varstring-is, frame_spelled, frame_fault}
 
 -- ---- joined
 

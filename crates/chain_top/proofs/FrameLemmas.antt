@@ -1,7 +1,6 @@
 -- Reading frames: what is spelled is read, what is read is spelled so, and the rest has one first fault.
-use Rattle.std.proofs.Common.{◌≡◌, ◌≢◌, ℕ, zero, suc, ◌+◌, ◌-◌, ◌^◌, ◌≤◌, ◌<◌, Bool, true, false, eqb, List, [], ◌∷◌, ◌++◌, length, take, drop, get_or, Result, Ok, Err, refl, sym, ap, subst, ◌∙◌, append_assoc, inl, inr, arith}
-use Rattle.std.specs.Prelude.{◌↔◌, ◌⊎◌, IfOk}
-use Rattle.std.specs.List.{flat_map, AllByRecursion}
+use Rattle.std.proofs.Common.{◌≡◌, ◌≢◌, ℕ, zero, suc, ◌+◌, ◌-◌, ◌^◌, ◌≤◌, ◌<◌, Bool, false, eqb, List, [], ◌∷◌, ◌++◌, length, take, drop, get_or, Result, Ok, Err, refl, sym, ap, subst, ◌∙◌, append_assoc, inl, inr, arith}
+use Rattle.std.specs.Prelude.{◌⊎◌, IfOk}
 use Rattle.std.proofs.lemmas.List.{length-append, length-take, append-nil}
 use Rattle.std.proofs.lemmas.Grind.{flat_map-append}
 use Rattle.wire.specs.declared.fault.WireFault.{WireFault}
@@ -11,10 +10,9 @@ use Rattle.wire.specs.Reading.{Read, groups_at, varint_at, varstring_at}
 use Rattle.wire.specs.Laws.{VarintLaws, VarstringLaws}
 use Rattle.data_model.specs.declared.block.Block.{Block}
 use Rattle.data_model.specs.declared.fault.DataKind.{DataKind}
-use Rattle.data_model.specs.declared.fault.DataKind.TheVariants.{Short, NotShortest, TooBig}
-use Rattle.data_model.specs.declared.fault.DataFault.{DataFault}
+use Rattle.data_model.specs.declared.fault.DataKind.TheVariants.{Short}
 use Rattle.data_model.specs.Layout.{Layout, FirstFault, trailing, here, later, in_count, behind_count, block_layout, kind_of}
-use Rattle.data_model.specs.Spelling.{IsBlock, block_spelling}
+use Rattle.data_model.specs.Spelling.{block_spelling}
 use Rattle.data_model.specs.Reading.{Fault, block_at}
 use Rattle.data_model.specs.Laws.{BlockLaws}
 use Rattle.chain_top.specs.declared.frames.FramesFault.{FramesFault}

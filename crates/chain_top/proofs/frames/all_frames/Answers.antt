@@ -1,10 +1,9 @@
-use Rattle.std.proofs.Common.{◌≡◌, ℕ, ◌+◌, ◌≤◌, length, Result, Ok, Err, ap, arith}
+use Rattle.std.proofs.Common.{◌≡◌, ℕ, length, Result, Err, ap, arith}
 use Rattle.std.proofs.lemmas.List.{length-append}
 use Rattle.data_model.specs.declared.block.Block.{Block}
 use Rattle.data_model.specs.declared.fault.DataFault.{DataFault}
 use Rattle.data_model.specs.declared.fault.DataFault.TheVariants.{At}
 use Rattle.data_model.specs.Reading.{Fault}
-use Rattle.chain_top.specs.Frames.{FrameFault, file_spelling}
 use Rattle.chain_top.proofs.FrameLemmas.{FrameFault-within, fault_behind, not_empty}
 use Rattle.chain_top.proofs.frames.all_frames.Goals as goal
 

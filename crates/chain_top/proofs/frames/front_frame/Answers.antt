@@ -1,4 +1,4 @@
-use Rattle.std.proofs.Common.{◌≡◌, ℕ, ◌<◌, Result, Err, refl, ap, subst, arith}
+use Rattle.std.proofs.Common.{◌≡◌, Result, Err, ap, subst, arith}
 use Rattle.data_model.specs.declared.block.Block.{Block}
 use Rattle.data_model.specs.declared.fault.DataFault.{DataFault}
 use Rattle.data_model.specs.declared.fault.DataFault.TheVariants.{At}

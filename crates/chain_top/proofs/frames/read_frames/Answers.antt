@@ -1,4 +1,4 @@
-use Rattle.std.proofs.Common.{◌≡◌, Ok, Err, arith}
+use Rattle.std.proofs.Common.{Ok, Err, arith}
 use Rattle.chain_top.proofs.FrameLemmas.{file_gives}
 use Rattle.chain_top.proofs.frames.read_frames.Goals as goal
 
