@@ -1,14 +1,12 @@
 -- How calls answer that print one line or nothing and touch no file.
-use Rattle.std.proofs.Common.{◌≡◌, ℕ, ◌<◌, ◌≤◌, List, [], ◌∷◌, ◌++◌, take, get_or, Option, Some, None, inl, inr, refl, sym, ◌∙◌, ap, subst, arith}
+use Rattle.std.proofs.Common.{◌≡◌, ℕ, ◌≤◌, List, [], ◌∷◌, take, get_or, Option, Some, None, inl, inr, refl, sym, ◌∙◌, arith}
 use Rattle.std.proofs.lemmas.List.{append-nil}
-use Rattle.std.specs.Option.{option_map}
 use Rattle.outside.specs.Sink.{holding}
-use Rattle.outside.specs.Files.{Content, Read, Write}
-use Rattle.outside.specs.Crash.{IsMoment}
+use Rattle.outside.specs.Files.{Content}
 use Rattle.chain_top.specs.Word.{Word}
 use Rattle.chain_top.specs.Reply.{Line, Reply, Given, told}
 use Rattle.chain_top.proofs.Done.{Untouched, holding-none, joined-none}
-use Rattle.chain_top.specs.Answer.{World, Shown, Agrees, Answers, HasCauses, Follows, Did, joined, Said, whole, part, none, text_of}
+use Rattle.chain_top.specs.Answer.{World, Shown, Agrees, Answers, HasCauses, Follows, Said, whole, part, none}
 
 -- what is given under the words, where the files tell, and else nothing
 pub given_of : Option (List ℕ → Content) → List Word → Given

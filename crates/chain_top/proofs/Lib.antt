@@ -1,5 +1,8 @@
 pub mod Answered
 pub mod Done
+pub mod FileLaws
+pub mod FrameLemmas
+pub mod FrameLengths
 pub mod HexWords
 pub mod InitReplies
 pub mod Replies

@@ -1,5 +1,5 @@
 -- Words have one reply, for what the named files hold.
-use Rattle.std.proofs.Common.{◌≡◌, ℕ, List, [], ◌∷◌, Option, Some, None, Ok, Err, refl, sym, ◌∙◌, ap, subst}
+use Rattle.std.proofs.Common.{◌≡◌, ℕ, List, [], ◌∷◌, Option, Some, None, refl, sym, ◌∙◌, ap, subst}
 use Rattle.vm_num.specs.Item.{Item}
 use Rattle.vm_run.specs.Row.{Check}
 use Rattle.vm_run.specs.Verdict.{HasVerdict}
@@ -7,7 +7,7 @@ use Rattle.vm_run.specs.declared.context.Context.TheVariants.{Nothing}
 use Rattle.vm_run.specs.declared.verdict.Verdict.{Verdict}
 use Rattle.vm_run.proofs.Outcomes.{one_verdict}
 use Rattle.chain_top.specs.Word.{Word}
-use Rattle.chain_top.specs.Command.{Command, Vm, Init, command_of}
+use Rattle.chain_top.specs.Command.{Command, Vm, Init}
 use Rattle.chain_top.specs.Line.{verdict_line, usage_line}
 use Rattle.chain_top.specs.Reply.{Hash, Given, Reply, told, VmReply, misfit, ran, InitReply, made, CommandReply}
 use Rattle.chain_top.proofs.VmReplies.{vm_reply}

@@ -1,14 +1,12 @@
 -- How a call answers that sets a file and then prints one line.
-use Rattle.std.proofs.Common.{◌≡◌, ℕ, ◌<◌, ◌≤◌, List, [], ◌∷◌, ◌++◌, take, get_or, Option, Some, None, true, false, inl, inr, refl, sym, ◌∙◌, ap, subst, arith, Result, Ok, Err}
+use Rattle.std.proofs.Common.{◌≡◌, ℕ, List, [], ◌∷◌, take, true, false, inl, inr, refl, sym, ◌∙◌, arith}
 use Rattle.std.proofs.lemmas.List.{append-nil}
-use Rattle.outside.specs.Fault.{Rose}
-use Rattle.outside.specs.Sink.{holding}
-use Rattle.outside.specs.Files.{Content, Read, Write, Replace, write_of, AllRead}
+use Rattle.outside.specs.Files.{Write, Replace, write_of}
 use Rattle.chain_top.specs.Word.{Word}
-use Rattle.chain_top.specs.Reply.{Line, Reply, Given, set_and_told}
-use Rattle.chain_top.specs.Answer.{World, Shown, Agrees, Answers, HasCauses, Follows, Did, joined, Said, whole, part, none, text_of}
-use Rattle.chain_top.proofs.Answered.{given_of, given_of-agrees, nothing-shown}
-use Rattle.chain_top.proofs.Done.{Untouched, holding-none, did-nothing, did-both, did-print, did-write}
+use Rattle.chain_top.specs.Reply.{Reply, Given, set_and_told}
+use Rattle.chain_top.specs.Answer.{World, Answers, Follows, Did, Said, whole, part, none}
+use Rattle.chain_top.proofs.Answered.{given_of, given_of-agrees}
+use Rattle.chain_top.proofs.Done.{Untouched, holding-none, did-both, did-print}
 
 module _ (words : List Word) (before : World) (name bytes text : List ℕ) where
   abbrev model : Given → Reply → Type 0

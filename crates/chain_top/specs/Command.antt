@@ -1,5 +1,5 @@
 -- The grammar of words.
-use Rattle.std.specs.Prelude.{◌≡◌, ℕ, ◌-◌, ◌^◌, List, [], ◌∷◌, Option, Some, None, if◌then◌else◌, bytes_eq, codes}
+use Rattle.std.specs.Prelude.{ℕ, ◌-◌, ◌^◌, List, [], ◌∷◌, Option, None, if◌then◌else◌, bytes_eq, codes}
 use Rattle.std.specs.Option.{option_map}
 use Rattle.chain_top.specs.Word.{Word, decimal_within}
 

@@ -1,6 +1,5 @@
 -- The initial block of a chain.
 use Rattle.std.specs.Prelude.{ℕ, List, [], replicate}
-use Rattle.data_model.specs.declared.header.Header.{Header}
 use Rattle.data_model.specs.declared.block.Block.{Block}
 
 -- of this time and next program, under a hash: both roots are the hash of nothing

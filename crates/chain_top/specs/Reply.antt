@@ -1,5 +1,5 @@
 -- What a call of the program answers: the model.
-use Rattle.std.specs.Prelude.{◌≡◌, ℕ, List, [], ◌∷◌, ◌++◌, Option, Some, None, Ok, Err, true}
+use Rattle.std.specs.Prelude.{◌≡◌, ℕ, List, [], ◌∷◌, Option, Some, None, Ok, Err, true}
 use Rattle.outside.specs.Files.{Content, Read, Write, Replace, write_of}
 use Rattle.vm_num.specs.Item.{Item}
 use Rattle.vm_run.specs.declared.verdict.Verdict.{Verdict}

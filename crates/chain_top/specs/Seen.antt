@@ -1,5 +1,5 @@
 -- What a contract sees of a command that was read.
-use Rattle.std.specs.Prelude.{ℕ, ◌≤◌, Option, Some, None, map, string_bytes}
+use Rattle.std.specs.Prelude.{◌≤◌, Option, Some, None, map, string_bytes}
 use Rattle.chain_top.specs.declared.command.Command.{Command as RustCommand}
 use Rattle.chain_top.specs.declared.command.Command.TheVariants as rust
 use Rattle.chain_top.specs.Command.{Command, Vm, Init, limit_most, decimal_most}

@@ -8,15 +8,16 @@ ghost use Rattle.chain_top.specs.Line.{block_line};
 ghost use Rattle.chain_top.specs.Reply.{InitReply, set_and_told};
 ghost use Rattle.chain_top.specs.Word.{Word};
 
+use crate::frames::frame;
 use crate::line::{block_line, refused_hex};
 use crate::say::{DONE, NO_MEMORY, REFUSED, WRITE_FAULT, say};
 use crate::word::hex_word;
-use data_model::{Block, Header, Txs, encode_block};
+use data_model::{Block, Header, Txs};
 use entry_ids::block_id;
 use keyed::IdHash;
 use outside::{FileFault, Files, Sink};
 use std::alloc::{AllocError, Global};
-use wire::{Args, Bytes, NoMemory, put_varstring};
+use wire::{Args, Bytes, NoMemory};
 
 // The initial block as a frame, and the line that tells it.
 #[derive(Drop)]
@@ -82,8 +83,7 @@ fn made<H: IdHash>(alloc: Global, hash: &H, time: u64, code: Bytes) -> Result<Pr
 {
     let block = initial_block(alloc, hash, time, code);
     let line = block_line(alloc, 1, &block_id(alloc, hash, &block.header)?)?;
-    let mut frame = Bytes::new(alloc);
-    put_varstring(&mut frame, encode_block(alloc, &block)?.as_slice())?;
+    let frame = frame(alloc, &block)?;
     Ok(Prepared { frame, line })
 }
 

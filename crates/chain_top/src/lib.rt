@@ -8,6 +8,7 @@ ghost use Rattle.chain_top.specs.Seen.{seen, HasLimit};
 ghost use Rattle.chain_top.specs.Word.{Word};
 
 mod command;
+pub mod frames;
 mod init;
 pub mod laws;
 mod line;

@@ -1,11 +1,10 @@
-use Rattle.std.proofs.Common.{◌≡◌, ◌∙◌, None, Some, Option, sym, ap, subst, refl, map, string_bytes, arith}
+use Rattle.std.proofs.Common.{◌≡◌, ◌∙◌, None, Option, sym, ap, subst, refl, map, string_bytes}
 use Rattle.chain_top.specs.Command.{Command, command_of}
-use Rattle.chain_top.specs.Seen.{seen_command, seen}
+use Rattle.chain_top.specs.Seen.{seen_command}
 use Rattle.chain_top.specs.Line.{usage_line}
-use Rattle.chain_top.specs.Reply.{Given, Reply, told, CommandReply}
+use Rattle.chain_top.specs.Reply.{told, CommandReply}
 use Rattle.chain_top.specs.Answer.{world, Answers}
 use Rattle.chain_top.proofs.Answered.{said-answers, given_of}
-use Rattle.chain_top.proofs.Done.{Untouched}
 use Rattle.chain_top.proofs.chain_main.Goals as goal
 
 pub returns-in-None-clause-answers : goal.returns-in-None-clause-answers

@@ -1,10 +1,8 @@
-use Rattle.std.proofs.Common.{◌≡◌, ◌∙◌, List, Some, Option, sym, ap, subst, refl, map, string_bytes, arith}
-use Rattle.chain_top.specs.Command.{Command, Vm}
+use Rattle.std.proofs.Common.{Some, sym, subst, refl, map, string_bytes}
 use Rattle.chain_top.specs.Seen.{seen}
-use Rattle.chain_top.specs.Reply.{Given, Reply, told, CommandReply, VmReply}
-use Rattle.chain_top.specs.Answer.{world, Answers, Said}
+use Rattle.chain_top.specs.Reply.{told, CommandReply, VmReply}
+use Rattle.chain_top.specs.Answer.{world, Answers}
 use Rattle.chain_top.proofs.Answered.{said-answers, nothing-answers, given_of}
-use Rattle.chain_top.proofs.Done.{Untouched}
 use Rattle.chain_top.proofs.VmReplies.{vm_reply}
 use Rattle.chain_top.proofs.run.Goals as goal
 

@@ -1,11 +1,10 @@
-use Rattle.std.proofs.Common.{◌≡◌, ◌∷◌, [], Some, None, sym, ◌∙◌, refl, ap, subst, string_bytes}
+use Rattle.std.proofs.Common.{◌≡◌, sym, ◌∙◌, refl, ap, string_bytes}
 use Rattle.entry_ids.specs.Entry.{header_id}
-use Rattle.chain_top.specs.Answer.{world, Answers}
+use Rattle.chain_top.specs.Answer.{world}
 use Rattle.chain_top.specs.Frames.{frame_spelling}
 use Rattle.chain_top.specs.Initial.{initial_block}
 use Rattle.chain_top.specs.Line.{refused_hex, block_line}
-use Rattle.chain_top.specs.Reply.{Given, Reply, told, set_and_told, InitReply, misfit, made}
-use Rattle.chain_top.proofs.Done.{Untouched}
+use Rattle.chain_top.specs.Reply.{told, set_and_told, InitReply, misfit, made}
 use Rattle.chain_top.proofs.Answered.{said-answers, nothing-answers}
 use Rattle.chain_top.proofs.InitReplies.{init_reply}
 use Rattle.chain_top.proofs.SetAndTold.{answers-by}

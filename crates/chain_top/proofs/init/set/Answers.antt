@@ -1,7 +1,7 @@
-use Rattle.std.proofs.Common.{◌≡◌, ◌∷◌, [], true, false, Err, ◌∙◌, refl, ap, string_bytes}
-use Rattle.outside.specs.Files.{Replace, write_of, AllRead}
-use Rattle.chain_top.specs.Answer.{world, joined}
-use Rattle.chain_top.proofs.Done.{Untouched, did-write, holding-none, joined-none}
+use Rattle.std.proofs.Common.{true, false, ◌∙◌, refl, string_bytes}
+use Rattle.outside.specs.Files.{Replace, write_of}
+use Rattle.chain_top.specs.Answer.{world}
+use Rattle.chain_top.proofs.Done.{did-write, holding-none, joined-none}
 use Rattle.chain_top.proofs.SetAndTold.{none-answers, failed-answers, said-after}
 use Rattle.chain_top.proofs.init.set.Goals as goal
 

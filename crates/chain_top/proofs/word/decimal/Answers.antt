@@ -1,5 +1,4 @@
-use Rattle.std.proofs.Common.{◌≡◌, ◌<◌, ◌^◌, true, Err, sym, ◌∙◌, ap, arith}
-use Rattle.std.specs.Str.Parse.{digits_value}
+use Rattle.std.proofs.Common.{◌≡◌, true, Err, sym, ◌∙◌, ap, arith}
 use Rattle.chain_top.specs.Word.{is_decimal}
 use Rattle.chain_top.proofs.Words.{parsed, too_large}
 use Rattle.chain_top.proofs.word.decimal.Goals as goal

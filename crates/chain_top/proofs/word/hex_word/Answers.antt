@@ -1,4 +1,4 @@
-use Rattle.std.proofs.Common.{◌≡◌, Some, sym, rules}
+use Rattle.std.proofs.Common.{◌≡◌, Some, rules}
 use Rattle.chain_top.specs.Word.{hex_of}
 use Rattle.chain_top.proofs.Words.{hex_short}
 use Rattle.chain_top.proofs.word.hex_word.Goals as goal
