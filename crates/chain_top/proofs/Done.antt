@@ -17,7 +17,7 @@ pub joined-none : {X : Type 0} (old : Option (List X)) → old ≡ joined old []
 joined-none None = refl
 joined-none (Some xs) = ap Some (sym (append-nil xs))
 
-joined-both : {X : Type 0} (old : Option (List X)) (xs ys : List X) → joined (joined old xs) ys ≡ joined old (xs ++ ys)
+pub joined-both : {X : Type 0} (old : Option (List X)) (xs ys : List X) → joined (joined old xs) ys ≡ joined old (xs ++ ys)
 joined-both None xs ys = refl
 joined-both (Some h) xs ys = ap Some (append_assoc h xs ys)
 

@@ -1,5 +1,5 @@
 -- The grammar of words.
-use Rattle.std.specs.Prelude.{ℕ, ◌-◌, ◌^◌, List, [], ◌∷◌, Option, None, if◌then◌else◌, bytes_eq, codes}
+use Rattle.std.specs.Prelude.{ℕ, ◌-◌, ◌^◌, List, [], ◌∷◌, Option, Some, None, if◌then◌else◌, bytes_eq, codes}
 use Rattle.std.specs.Option.{option_map}
 use Rattle.chain_top.specs.Word.{Word, decimal_within}
 
@@ -9,6 +9,8 @@ pub data Command : Type 0 where
   Vm : (limit : ℕ) (program : Word) (args : List Word) → Command
   -- the ledger's name, the time of its initial block and that block's next program
   Init : (ledger : Word) (time : ℕ) (program : Word) → Command
+  -- the ledger's name and that of the file of offers
+  Apply : (ledger offers : Word) → Command
 
 -- until predicates run in frames of their own, a limit is at most 100,000
 abbrev pub limit_most : ℕ
@@ -29,7 +31,19 @@ abbrev pub init_words : List Word → Option Command
 init_words (ledger ∷ time ∷ program ∷ []) = option_map (λ n. Init ledger n program) (decimal_within decimal_most time)
 init_words words = None
 
+-- `apply LEDGER OFFERS`
+abbrev pub apply_words : List Word → Option Command
+apply_words (ledger ∷ offers ∷ []) = Some (Apply ledger offers)
+apply_words words = None
+
 -- the command that words say; there is none where they are outside the grammar
 abbrev pub command_of : List Word → Option Command
 command_of [] = None
-command_of (name ∷ words) = if bytes_eq name (codes "vm") then vm_words words else (if bytes_eq name (codes "init") then init_words words else None)
+command_of (name ∷ words) = if bytes_eq name (codes "vm") then vm_words words else (if bytes_eq name (codes "init") then init_words words else (if bytes_eq name (codes "apply") then apply_words words else None))
+
+-- what the command does stands in no file
+abbrev pub ReadsNoFile : Option Command → Type 0
+ReadsNoFile None = Unit {0}
+ReadsNoFile (Some (Vm limit program args)) = Unit {0}
+ReadsNoFile (Some (Init ledger time program)) = Unit {0}
+ReadsNoFile (Some (Apply ledger offers)) = ⊥

@@ -2,7 +2,10 @@ pub mod Answer
 pub mod Command
 pub mod Frames
 pub mod Initial
+pub mod Following
 pub mod Line
+pub mod Loading
+pub mod Loads
 pub mod Reading
 pub mod Reply
 pub mod Seen

@@ -1,9 +1,16 @@
 -- Printed lines, each with its newline.
 use Rattle.std.specs.Prelude.{ℕ, List, [], ◌∷◌, ◌++◌, codes, decimal}
 use Rattle.hex.specs.Hex.{encode_lower}
+use Rattle.data_model.specs.declared.fault.DataKind.{DataKind}
 use Rattle.vm_num.specs.Failure.{failure_name}
 use Rattle.vm_run.specs.declared.verdict.Verdict.{Verdict}
 use Rattle.vm_run.specs.declared.verdict.Verdict.TheVariants.{Succeeded, Failed}
+use Rattle.ledger_core.specs.declared.refusal.StartFault.{StartFault}
+use Rattle.ledger_core.specs.declared.refusal.StartFault.TheVariants.{HeightNotOne, PreviousNotZero, VersionNotOne, NotEmpty, RootsNotEmpty}
+use Rattle.ledger_core.specs.declared.refusal.StartFault.TheVariants as starts
+use Rattle.ledger_core.specs.declared.refusal.BlockRefusal.{BlockRefusal}
+use Rattle.ledger_core.specs.declared.refusal.BlockRefusal.TheVariants.{B1, B2, B3, B4, B5, B6, B7, B9}
+use Rattle.chain_top.specs.Frames.{kind_name}
 
 abbrev pub newline : List ℕ
 newline = 10 ∷ []
@@ -26,3 +33,65 @@ block_line_of height hex = codes "block " ++ (decimal height ++ (codes " " ++ (h
 
 abbrev pub block_line : ℕ → List ℕ → List ℕ
 block_line height id = block_line_of height (encode_lower id)
+
+-- `accepted HEIGHT ID`, with the id in hex
+abbrev pub accepted_line_of : ℕ → List ℕ → List ℕ
+accepted_line_of height hex = codes "accepted " ++ (decimal height ++ (codes " " ++ (hex ++ newline)))
+
+abbrev pub accepted_line : ℕ → List ℕ → List ℕ
+accepted_line height id = accepted_line_of height (encode_lower id)
+
+-- ---- refusals
+
+-- `refused size K`
+abbrev pub refused_size : ℕ → List ℕ
+refused_size place = codes "refused size " ++ decimal place ++ newline
+
+-- `refused file K I AT KIND`
+abbrev pub refused_file_of : ℕ → ℕ → ℕ → List ℕ → List ℕ
+refused_file_of place index at kind = codes "refused file " ++ (decimal place ++ (codes " " ++ (decimal index ++ (codes " " ++ (decimal at ++ (codes " " ++ (kind ++ newline)))))))
+
+abbrev pub refused_file : ℕ → ℕ → ℕ → DataKind → List ℕ
+refused_file place index at kind = refused_file_of place index at (kind_name kind)
+
+-- why a block starts no chain
+abbrev pub start_words : StartFault → List ℕ
+start_words HeightNotOne = codes "I1"
+start_words PreviousNotZero = codes "I2"
+start_words VersionNotOne = codes "I3"
+start_words NotEmpty = codes "I4"
+start_words RootsNotEmpty = codes "I5"
+start_words starts.NoMemory = []
+
+-- a name and two numbers
+abbrev pub number_words : List ℕ → ℕ → ℕ → List ℕ
+number_words name first second = name ++ (codes " " ++ (decimal first ++ (codes " " ++ decimal second)))
+
+-- a name and two ids in hex
+abbrev pub id_words_of : List ℕ → List ℕ → List ℕ → List ℕ
+id_words_of name first second = name ++ (codes " " ++ (first ++ (codes " " ++ second)))
+
+abbrev pub id_words : List ℕ → List ℕ → List ℕ → List ℕ
+id_words name first second = id_words_of name (encode_lower first) (encode_lower second)
+
+-- why a block does not extend a chain, with the values
+abbrev pub refusal_words : BlockRefusal → List ℕ
+refusal_words (B1 tip given) = id_words (codes "B1") tip given
+refusal_words (B2 wanted given) = number_words (codes "B2") wanted given
+refusal_words (B3 tip_time given) = number_words (codes "B3") tip_time given
+refusal_words (B4 given) = codes "B4 " ++ decimal given
+refusal_words (B5 tip_version given) = number_words (codes "B5") tip_version given
+refusal_words (B6 computed given) = id_words (codes "B6") computed given
+refusal_words (B7 kind at) = codes "B7 " ++ (failure_name kind ++ (codes " " ++ decimal at))
+refusal_words (B9 computed given) = id_words (codes "B9") computed given
+
+-- `refused REFUSAL`
+abbrev pub refused_words : List ℕ → List ℕ
+refused_words words = codes "refused " ++ (words ++ newline)
+
+abbrev pub refused_block : BlockRefusal → List ℕ
+refused_block refusal = refused_words (refusal_words refusal)
+
+-- `refused ledger I REFUSAL`
+abbrev pub refused_ledger : ℕ → List ℕ → List ℕ
+refused_ledger index words = codes "refused ledger " ++ (decimal index ++ (codes " " ++ (words ++ newline)))

@@ -1,6 +1,6 @@
 // The grammar of words.
 ghost use Rattle.std.specs.Prelude.{◌≡◌, ◌+◌, ◌<◌, ◌^◌, length, map, string_bytes, IfSome};
-ghost use Rattle.chain_top.specs.Command.{command_of, vm_words, init_words};
+ghost use Rattle.chain_top.specs.Command.{command_of, vm_words, init_words, apply_words};
 ghost use Rattle.chain_top.specs.Seen.{seen_command, HasLimit};
 
 use crate::word::decimal;
@@ -26,6 +26,11 @@ pub enum Command<'a> {
         time: u64,
         program: &'a String,
     },
+    /// The ledger's name, and that of the file of offers.
+    Apply {
+        ledger: &'a String,
+        offers: &'a String,
+    },
 }
 
 /// The command that words say, or none where they are outside the grammar.
@@ -36,6 +41,7 @@ pub fn command_of(words: &[String]) -> Option<Command<'_>>
     match words {
         [name, rest @ ..] if name.as_str() == "vm" => vm_words(rest),
         [name, rest @ ..] if name.as_str() == "init" => init_words(rest),
+        [name, rest @ ..] if name.as_str() == "apply" => apply_words(rest),
         _ => None,
     }
 }
@@ -70,6 +76,16 @@ fn init_words(words: &[String]) -> Option<Command<'_>>
                 program,
             })
         }
+        _ => None,
+    }
+}
+
+fn apply_words(words: &[String]) -> Option<Command<'_>>
+    ensures reads { seen_command result ≡ apply_words (map string_bytes words.now) }
+    ensures limit { HasLimit result }
+{
+    match words {
+        [ledger, offers] => Some(Command::Apply { ledger, offers }),
         _ => None,
     }
 }

@@ -4,20 +4,25 @@
 ghost use Rattle.std.specs.Prelude.{List, Some, map, string_bytes};
 ghost use Rattle.chain_top.specs.Answer.{world, Answers, HasCauses};
 ghost use Rattle.chain_top.specs.Reply.{IsReply, CommandReply};
-ghost use Rattle.chain_top.specs.Seen.{seen, HasLimit};
+ghost use Rattle.chain_top.specs.Seen.{seen, HasLimit, Names};
 ghost use Rattle.chain_top.specs.Word.{Word};
 
+mod apply;
 mod command;
-pub mod frames;
+mod frames;
 mod init;
 pub mod laws;
 mod line;
+mod load;
+mod refused;
+mod replay;
 mod say;
 #[cfg(test)]
 mod tests;
 mod vm;
 mod word;
 
+use apply::apply;
 use command::{Command, command_of};
 use init::init;
 use keyed::{IdHash, SigCheck};
@@ -64,7 +69,7 @@ fn run<F: Files, S: Sink, H: IdHash, C: SigCheck>(
     sigs: &C,
 ) -> u8
     requires { HasLimit (Some command) }
-    ensures answers { (words : List Word) → Answers (CommandReply (H.hash_of hash.now) (C.good_of sigs.now) (Some (seen command.entry))) words
+    ensures answers { (words : List Word) → Names words command.entry → Answers (CommandReply (H.hash_of hash.now) (C.good_of sigs.now) (Some (seen command.entry))) words
         (world S.held S.faults F.contents F.reads F.writes F.read_faults F.write_faults out.old files.old)
         (world S.held S.faults F.contents F.reads F.writes F.read_faults F.write_faults out.new files.new) result }
     ensures causes { HasCauses
@@ -92,6 +97,15 @@ fn run<F: Files, S: Sink, H: IdHash, C: SigCheck>(
             files,
             out,
             hash,
+        ),
+        Command::Apply { ledger, offers } => apply(
+            alloc,
+            ledger.as_str(),
+            offers.as_str(),
+            files,
+            out,
+            hash,
+            sigs,
         ),
     }
 }

@@ -1,7 +1,7 @@
 // Printed lines, each with its newline.
 ghost use Rattle.std.specs.Prelude.{◌≡◌, ◌<◌, IfOk, string_bytes, string_len};
 ghost use Rattle.hex.specs.Hex.{encode_lower};
-ghost use Rattle.chain_top.specs.Line.{refused_hex, verdict_line, block_line, block_line_of};
+ghost use Rattle.chain_top.specs.Line.{refused_hex, verdict_line, block_line, block_line_of, accepted_line, accepted_line_of};
 
 use std::alloc::{AllocError, Global};
 use vm_run::Verdict;
@@ -41,8 +41,23 @@ fn block_line_of(alloc: Global, height: u64, hex: &str) -> Result<String, AllocE
     format!(in alloc; "block {height} {hex}\n")
 }
 
-// Bytes in lower-case hex.
-fn hex_text(alloc: Global, bytes: &Id) -> Result<String, AllocError>
+pub fn accepted_line(alloc: Global, height: u64, id: &Id) -> Result<String, AllocError>
+    ensures text { IfOk result (λ line. string_bytes line ≡ accepted_line height id.now) }
+    ensures some { IfOk result (λ line. 0 < string_len line) }
+{
+    let hex = hex_text(alloc, id)?;
+    accepted_line_of(alloc, height, hex.as_str())
+}
+
+fn accepted_line_of(alloc: Global, height: u64, hex: &str) -> Result<String, AllocError>
+    ensures text { IfOk result (λ line. string_bytes line ≡ accepted_line_of height hex.now) }
+    ensures some { IfOk result (λ line. 0 < string_len line) }
+{
+    format!(in alloc; "accepted {height} {hex}\n")
+}
+
+/// Bytes in lower-case hex.
+pub fn hex_text(alloc: Global, bytes: &Id) -> Result<String, AllocError>
     ensures { IfOk result (λ text. string_bytes text ≡ encode_lower bytes.now) }
 {
     hex::encode(alloc, bytes.as_slice())

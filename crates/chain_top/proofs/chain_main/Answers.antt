@@ -1,6 +1,7 @@
 use Rattle.std.proofs.Common.{◌≡◌, ◌∙◌, None, Option, sym, ap, subst, refl, map, string_bytes}
 use Rattle.chain_top.specs.Command.{Command, command_of}
 use Rattle.chain_top.specs.Seen.{seen_command}
+use Rattle.chain_top.proofs.Named.{named}
 use Rattle.chain_top.specs.Line.{usage_line}
 use Rattle.chain_top.specs.Reply.{told, CommandReply}
 use Rattle.chain_top.specs.Answer.{world, Answers}
@@ -26,4 +27,4 @@ returns-in-Some-clause-answers g c =
     let is = ap seen_command (sym c.in-Some.is) ∙ c.command_of.ensures.reads in
     let check = g.C.SigCheck.good_of c.args.sigs.now in
     let hash = g.H.IdHash.hash_of c.args.hash.now in
-    subst (λ (o : Option Command). Answers (λ given reply. CommandReply hash check o given reply) words (at c.args.out.now c.args.files.now) (at c.run.new.out c.run.new.files) c.run.result) is (c.run.ensures.answers words)
+    subst (λ (o : Option Command). Answers (λ given reply. CommandReply hash check o given reply) words (at c.args.out.now c.args.files.now) (at c.run.new.out c.run.new.files) c.run.result) is (c.run.ensures.answers words (named words c.in-Some.command is))
