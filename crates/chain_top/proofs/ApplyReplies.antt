@@ -31,7 +31,7 @@ all_bytes (b ∷ bs) is = λ i. by_place i (front_byte b bs is).0 (all_bytes bs 
 abbrev IsOk : {X : Type 0} → (Content → Result X Stop → Type 0) → Content → Type 0
 IsOk {X} model content = (r : Result X Stop) × model content r
 
-some_bytes : (place : ℕ) (content : Content) → ((stop : Stop) × BytesOf place content (Err stop)) ⊎ ((bytes : List ℕ) × BytesOf place content (Ok bytes))
+pub some_bytes : (place : ℕ) (content : Content) → ((stop : Stop) × BytesOf place content (Err stop)) ⊎ ((bytes : List ℕ) × BytesOf place content (Ok bytes))
 some_bytes place None = inl (Missing, missing)
 some_bytes place (Some bytes) = by_length (nat_le (length bytes) most_bytes) refl
   where

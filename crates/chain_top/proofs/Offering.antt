@@ -53,7 +53,7 @@ done_of-both (w ∷ ws) vs = by_done w.done _ (done_of ws) (done_of vs) (done_of
     by_done false x y z h = h
 
 -- a moment of the first of some writes
-moment_more : (ws vs seen : List Write) → IsMoment ws seen → IsMoment (ws ++ vs) seen
+pub moment_more : (ws vs seen : List Write) → IsMoment ws seen → IsMoment (ws ++ vs) seen
 moment_more ws vs seen (inl (rest, e)) = inl (rest ++ vs, ap (λ (x : List Write). x ++ vs) e ∙ append_assoc seen rest vs)
 moment_more ws vs seen (inr (before, w, rest, e, s)) = inr (before, w, rest ++ vs, ap (λ (x : List Write). x ++ vs) e ∙ append_assoc before (w ∷ rest) vs, s)
 

@@ -8,12 +8,13 @@ use Rattle.vm_run.specs.declared.verdict.Verdict.{Verdict}
 use Rattle.vm_run.proofs.Outcomes.{one_verdict}
 use Rattle.chain_top.specs.Word.{Word}
 use Rattle.chain_top.specs.Frames.{FileLaws}
-use Rattle.chain_top.specs.Command.{Command, Vm, Init, Apply, ReadsNoFile}
+use Rattle.chain_top.specs.Command.{Command, Vm, Init, Apply}
 use Rattle.chain_top.specs.Line.{verdict_line, usage_line}
 use Rattle.chain_top.specs.Reply.{Hash, Given, Reply, told, VmReply, misfit, ran, InitReply, made, CommandReply}
 use Rattle.chain_top.proofs.VmReplies.{vm_reply}
 use Rattle.chain_top.proofs.InitReplies.{init_reply}
 use Rattle.chain_top.proofs.ApplyReplies.{apply_reply}
+use Rattle.chain_top.proofs.OneApply.{one_apply}
 
 -- the verdict on items of which the first is the program
 abbrev OnItems : Check → ℕ → Verdict → List Item → Type 0
@@ -37,11 +38,11 @@ one_init hash ledger time program a b (misfit none is) (made some same) = cc
 one_init hash ledger time program a b (made some is) (misfit none same) = cc
 one_init hash ledger time program a b (made some is) (made again same) = cc
 
-pub one_reply : (hash : Hash) (check : Check) (command : Option Command) (given : Given) (a b : Reply) → ReadsNoFile command → CommandReply hash check command given a → CommandReply hash check command given b → a ≡ b
-one_reply hash check None given a b none is same = is ∙ sym same
-one_reply hash check (Some (Vm limit program args)) given a b none is same = one_vm check limit program args a b is same
-one_reply hash check (Some (Init ledger time program)) given a b none is same = one_init hash ledger time program a b is same
-one_reply hash check (Some (Apply ledger offers)) given a b none is same = absurd none
+pub one_reply : FileLaws → (hash : Hash) (check : Check) (command : Option Command) (given : Given) (a b : Reply) → CommandReply hash check command given a → CommandReply hash check command given b → a ≡ b
+one_reply laws hash check None given a b is same = is ∙ sym same
+one_reply laws hash check (Some (Vm limit program args)) given a b is same = one_vm check limit program args a b is same
+one_reply laws hash check (Some (Init ledger time program)) given a b is same = one_init hash ledger time program a b is same
+one_reply laws hash check (Some (Apply ledger offers)) given a b is same = one_apply hash check laws ledger offers (given 1) (given 2) a b is same
 
 pub some_reply : FileLaws → (hash : Hash) (check : Check) (command : Option Command) (given : Given) → (reply : Reply) × CommandReply hash check command given reply
 some_reply laws hash check None given = (told 1 usage_line, refl)

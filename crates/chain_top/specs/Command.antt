@@ -40,10 +40,3 @@ apply_words words = None
 abbrev pub command_of : List Word → Option Command
 command_of [] = None
 command_of (name ∷ words) = if bytes_eq name (codes "vm") then vm_words words else (if bytes_eq name (codes "init") then init_words words else (if bytes_eq name (codes "apply") then apply_words words else None))
-
--- what the command does stands in no file
-abbrev pub ReadsNoFile : Option Command → Type 0
-ReadsNoFile None = Unit {0}
-ReadsNoFile (Some (Vm limit program args)) = Unit {0}
-ReadsNoFile (Some (Init ledger time program)) = Unit {0}
-ReadsNoFile (Some (Apply ledger offers)) = ⊥

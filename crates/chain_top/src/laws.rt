@@ -1,17 +1,34 @@
 //! Laws of the model, each the contract of a function with nothing to do.
 ghost use Rattle.std.specs.Prelude.{◌≡◌, List};
 ghost use Rattle.vm_run.specs.Row.{Check};
-ghost use Rattle.chain_top.specs.Command.{command_of, ReadsNoFile};
+ghost use Rattle.chain_top.specs.Growth.{GrowthLaws, CrashLaws};
 ghost use Rattle.chain_top.specs.Word.{Word};
 ghost use Rattle.chain_top.specs.Reply.{Hash, Given, Reply, IsReply};
 
 use crate::frames::file_readings;
+use outside::{moments_join, others_stay, starts_kept};
 
-/// The model gives a reply to all words, whatever the files hold; where the command reads no file, no two.
+/// The model gives a reply to all words, whatever the files hold, and no two.
 pub fn one_reply()
     ensures some { (hash : Hash) (check : Check) (words : List Word) (given : Given) → (reply : Reply) × IsReply hash check words given reply }
     ensures one { (hash : Hash) (check : Check) (words : List Word) (given : Given) (a b : Reply) →
-        ReadsNoFile (command_of words) → IsReply hash check words given a → IsReply hash check words given b → a ≡ b }
+        IsReply hash check words given a → IsReply hash check words given b → a ≡ b }
 {
     file_readings();
+}
+
+/// A ledger grows by exactly the offered blocks that are accepted one after the other, or not at all.
+pub fn growing_ledgers()
+    ensures { (hash : Hash) (check : Check) → GrowthLaws hash check }
+{}
+
+/// A crash at any moment of `apply` leaves of a ledger what it had, the frames of the first blocks that are added, and a
+/// torn one.
+pub fn torn_ledgers()
+    ensures { (hash : Hash) (check : Check) → CrashLaws hash check }
+{
+    growing_ledgers();
+    moments_join();
+    others_stay();
+    starts_kept();
 }

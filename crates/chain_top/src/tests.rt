@@ -510,3 +510,111 @@ fn files_are_refused(rt: HostRuntime) -> Result<(), Fail> {
     }
     Ok(())
 }
+
+// ---- the longest files
+
+// What a test gives a long file.
+#[derive(Clone, Copy)]
+enum Long {
+    // the frame of the first block, of 104 bytes
+    One,
+    Zeros(u32),
+    // 1,022 frames of 65,643 bytes and one of 21,614, and so many bytes more in the program of the last
+    Frames(u8),
+}
+
+// A frame of a block of height 2 that names no block before it: the spellings of its length and of its program's length,
+// and the program.
+fn push_frame(
+    out: &mut Vec<u8>,
+    len: [u8; 3],
+    program_len: [u8; 3],
+    program: &[u8],
+) -> Result<(), Fail> {
+    out.extend_from_slice(&len)?;
+    out.extend_from_slice(&[1, 2])?;
+    out.extend_from_slice(&[0; 32])?;
+    out.push(2)?;
+    out.extend_from_slice(&[0; 64])?;
+    out.extend_from_slice(&program_len)?;
+    out.extend_from_slice(program)?;
+    out.extend_from_slice(&[0, 0])?;
+    Ok(())
+}
+
+fn long_bytes(alloc: Global, long: Long) -> Result<Vec<u8>, Fail> {
+    match long {
+        Long::One => {
+            let bytes = given_bytes(alloc, Given::Blocks(&[BLOCK_ONE]))?;
+            Ok(bytes.unwrap_or(Vec::new(alloc)))
+        }
+        Long::Zeros(len) => Ok(vec![in alloc; 0u8; len as usize]?),
+        Long::Frames(more) => {
+            let program = vec![in alloc; 0u8; 65_536]?;
+            let mut out = Vec::new(alloc);
+            for _ in 0..1_022u32 {
+                push_frame(&mut out, [0xe8, 0x80, 0x04], [0x80, 0x80, 0x04], &program)?;
+            }
+            let end = 21_507 + more as usize;
+            let low = more & 1;
+            push_frame(
+                &mut out,
+                [0xeb + low, 0xa8, 0x01],
+                [0x83 + low, 0xa8, 0x01],
+                &program[..end],
+            )?;
+            Ok(out)
+        }
+    }
+}
+
+// As many bytes as a file may have and as both may have together, and one more.
+#[test]
+fn longest_files(rt: HostRuntime) -> Result<(), Fail> {
+    let mut told = String::new(rt.alloc());
+    for _ in 0..1_023u32 {
+        told.push_str("refused B1 ")?;
+        told.push_str(FIRST)?;
+        told.push_str(" ")?;
+        told.push_str(ZEROS)?;
+        told.push_str("\n")?;
+    }
+    // the ledger, the offers, the status, what is printed, and the calls on the files
+    let rows: [(Long, Long, u8, &str, u64); 6] = [
+        (
+            Long::Zeros(67_108_864),
+            Long::One,
+            2,
+            "refused file 1 0 1 Short\n",
+            1,
+        ),
+        (Long::Zeros(67_108_865), Long::One, 2, "refused size 1\n", 1),
+        (
+            Long::One,
+            Long::Zeros(67_108_864),
+            2,
+            "refused file 2 0 1 Short\n",
+            2,
+        ),
+        (Long::One, Long::Zeros(67_108_865), 2, "refused size 2\n", 2),
+        (Long::One, Long::Frames(0), 0, told.as_str(), 2),
+        (Long::One, Long::Frames(1), 2, "refused size 2\n", 2),
+    ];
+    for (ledger, offers, status, printed, calls) in rows {
+        let mut files = MemFiles::new(rt.alloc(), Vec::new(rt.alloc()));
+        let before = long_bytes(rt.alloc(), ledger)?;
+        files.put("led", &before)?;
+        files.put("offers", &long_bytes(rt.alloc(), offers)?)?;
+        let mut out = MemSink::new(rt.alloc(), Vec::new(rt.alloc()));
+        let words = ["apply", "led", "offers"];
+        let answer = call(rt.alloc(), &words, &mut files, &mut out)?;
+        assert_eq!(rt; answer, status);
+        assert_eq!(rt; out.bytes(), printed.as_bytes());
+        assert_eq!(rt; files.calls(), calls);
+        assert!(rt;
+            files.get("led").unwrap_or(b"") == before.as_slice(),
+            "the ledger is as it was"
+        );
+    }
+    Ok(())
+}

@@ -6,4 +6,4 @@ pub returns-clause-some : goal.returns-clause-some
 returns-clause-some c = λ hash check words given. replies.some_reply c.file_readings.ensures hash check (command_of words) given
 
 pub returns-clause-one : goal.returns-clause-one
-returns-clause-one c = λ hash check words given a b none is same. replies.one_reply hash check (command_of words) given a b none is same
+returns-clause-one c = λ hash check words given a b is same. replies.one_reply c.file_readings.ensures hash check (command_of words) given a b is same
