@@ -19,4 +19,5 @@ pub mod Replayed
 pub mod Replies
 pub mod SetAndTold
 pub mod VmReplies
+pub mod Wholly
 pub mod Words

@@ -10,4 +10,5 @@ pub mod Loads
 pub mod Reading
 pub mod Reply
 pub mod Seen
+pub mod Whole
 pub mod Word

@@ -221,3 +221,6 @@ fn append_frame<F: Files, S: Sink>(
         Err(FileFault::NoMemory) => NO_MEMORY,
     }
 }
+
+#[cfg(test)]
+mod tests;

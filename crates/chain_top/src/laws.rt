@@ -2,6 +2,7 @@
 ghost use Rattle.std.specs.Prelude.{◌≡◌, List};
 ghost use Rattle.vm_run.specs.Row.{Check};
 ghost use Rattle.chain_top.specs.Growth.{GrowthLaws, CrashLaws};
+ghost use Rattle.chain_top.specs.Whole.{AnswerLaws};
 ghost use Rattle.chain_top.specs.Word.{Word};
 ghost use Rattle.chain_top.specs.Reply.{Hash, Given, Reply, IsReply};
 
@@ -13,6 +14,13 @@ pub fn one_reply()
     ensures some { (hash : Hash) (check : Check) (words : List Word) (given : Given) → (reply : Reply) × IsReply hash check words given reply }
     ensures one { (hash : Hash) (check : Check) (words : List Word) (given : Given) (a b : Reply) →
         IsReply hash check words given a → IsReply hash check words given b → a ≡ b }
+{
+    file_readings();
+}
+
+/// A call in which nothing failed does all of the model's reply, or ends for want of memory.
+pub fn whole_answers()
+    ensures { (hash : Hash) (check : Check) → AnswerLaws hash check }
 {
     file_readings();
 }

@@ -48,7 +48,7 @@ pub fn chain_main<F: Files, S: Sink, H: IdHash, C: SigCheck>(
         (world S.held S.faults F.contents F.reads F.writes F.read_faults F.write_faults out.old files.old)
         (world S.held S.faults F.contents F.reads F.writes F.read_faults F.write_faults out.new files.new) result }
 
-    // When the status is 3, 4 or 5.
+    // When the status is 3 or 4, and that it is one of them where a call on the files or the sink failed.
     ensures causes { HasCauses
         (world S.held S.faults F.contents F.reads F.writes F.read_faults F.write_faults out.old files.old)
         (world S.held S.faults F.contents F.reads F.writes F.read_faults F.write_faults out.new files.new) result }

@@ -23,7 +23,8 @@ impl Model for Num {
 impl Num {
     /// The bytes, the lowest first.
     pub fn as_slice(&self) -> &[u8]
-        ensures { result.now ≡ self.now }
+        ensures bytes { result.now ≡ self.now }
+        ensures short { length result.now ≤ 8 }
     {
         &self.bytes[..self.len]
     }
