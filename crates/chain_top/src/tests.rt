@@ -29,7 +29,7 @@ pub(crate) fn call(
 // Calls that touch no file: the words, the status and what is printed.
 #[test]
 fn answers_of_words(rt: HostRuntime) -> Result<(), Fail> {
-    let rows: [(&[&str], u8, &str); 54] = [
+    let rows: [(&[&str], u8, &str); 59] = [
         // 2 and 3: 10 and 10; ADD: 2 and 9 for 18 back; 5: 10; NUMEQUAL: 2 and 9 for 18 back
         (&["vm", "10000", "525393559c"], 0, "succeeded left 9984\n"),
         // FALSE: 1 and 8
@@ -117,12 +117,17 @@ fn answers_of_words(rt: HostRuntime) -> Result<(), Fail> {
         (&["init", "led", "1", "51", "x"], 1, "usage\n"),
         (&["init", "led", "01", "51"], 1, "usage\n"),
         (&["init", "led", "9223372036854775808", "51"], 1, "usage\n"),
+        (&["apply"], 1, "usage\n"),
+        (&["apply", "led"], 1, "usage\n"),
+        (&["apply", "led", "offers", "x"], 1, "usage\n"),
         // no hex words: a place counts from the command on, and the first is told
         (&["vm", "10", "zz"], 2, "refused hex 2\n"),
         (&["vm", "10", "5"], 2, "refused hex 2\n"),
         (&["vm", "10", "zz", "zz"], 2, "refused hex 2\n"),
         (&["vm", "10", "51", "zz"], 2, "refused hex 3\n"),
         (&["vm", "10", "51", "00", "g0"], 2, "refused hex 4\n"),
+        (&["init", "led", "1", "zz"], 2, "refused hex 3\n"),
+        (&["init", "led", "1", "5"], 2, "refused hex 3\n"),
     ];
     for (words, status, printed) in rows {
         let mut files = MemFiles::new(rt.alloc(), Vec::new(rt.alloc()));
