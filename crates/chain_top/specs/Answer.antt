@@ -1,5 +1,6 @@
 -- What a call did, against the model's reply.
-use Rattle.std.specs.Prelude.{◌≡◌, ◌≢◌, ◌⊎◌, ℕ, suc, ◌<◌, ◌≤◌, List, [], ◌∷◌, ◌++◌, take, get_or, if◌then◌else◌, Option, Some, None}
+use Rattle.std.specs.Prelude.{◌≡◌, ◌≢◌, ◌⊎◌, ℕ, suc, ◌<◌, ◌≤◌, List, [], ◌∷◌, ◌++◌, take, get_or, if◌then◌else◌, Option}
+use Rattle.std.specs.Prelude.{Some, None}
 use Rattle.std.specs.List.{flat_map}
 use Rattle.std.specs.Option.{option_map}
 use Rattle.outside.specs.Fault.{Rose}
@@ -19,7 +20,18 @@ pub record World : Type 0 where
   pub read_faults : ℕ
   pub write_faults : ℕ
 
-abbrev pub world : {F S : Type 0} → (S → Option (List ℕ)) → (S → ℕ) → (F → Option (List ℕ → Content)) → (F → Option (List Read)) → (F → Option (List Write)) → (F → ℕ) → (F → ℕ) → S → F → World
+abbrev pub world :
+    {F S : Type 0}
+    → (S → Option (List ℕ))
+    → (S → ℕ)
+    → (F → Option (List ℕ → Content))
+    → (F → Option (List Read))
+    → (F → Option (List Write))
+    → (F → ℕ)
+    → (F → ℕ)
+    → S
+    → F
+    → World
 world held faults contents reads writes read_faults write_faults out files = record {
   held = held out;
   sink_faults = faults out;
@@ -44,7 +56,10 @@ text_of lines = flat_map (λ line. line.text) lines
 abbrev pub Shown : List Line → ℕ → List ℕ → Type 0
 Shown [] done printed = printed ≡ []
 Shown (line ∷ lines) done printed =
-    (printed ≡ []) ⊎ ((line.after ≤ done) × (((n : ℕ) × (printed ≡ take n line.text)) ⊎ ((rest : List ℕ) × (printed ≡ line.text ++ rest) × Shown lines done rest)))
+    (printed ≡ [])
+        ⊎ ((line.after ≤ done)
+            × (((n : ℕ) × (printed ≡ take n line.text))
+                ⊎ ((rest : List ℕ) × (printed ≡ line.text ++ rest) × Shown lines done rest)))
 
 -- what is given by places is what the files hold under the words, where they tell
 abbrev pub Agrees : Option (List ℕ → Content) → List Word → Given → Type 0
@@ -60,12 +75,15 @@ abbrev pub joined : {X : Type 0} → Option (List X) → List X → Option (List
 joined old more = option_map (λ xs. xs ++ more) old
 
 -- What was printed, read and written follows a reply: fronts of it, and all of it where the status is 0, 1 or 2.
-pub record Follows (reply : Reply) (status : ℕ) (printed : List ℕ) (reads : List Read) (begun : List Write) : Type 0 where
+pub record Follows (reply : Reply) (status : ℕ) (printed : List ℕ) (reads : List Read) (begun : List Write)
+    : Type 0 where
   pub shown : Shown reply.lines (done_of begun) printed
   pub reads_in_order : (rest : List Read) × (reply.reads ≡ reads ++ rest)
   -- writes in order, the last perhaps failed
   pub writes_in_order : IsMoment reply.writes begun
-  pub whole : status < 3 → (status ≡ reply.status) × (printed ≡ text_of reply.lines) × (reads ≡ reply.reads) × (begun ≡ reply.writes)
+  pub whole :
+      status < 3
+      → (status ≡ reply.status) × (printed ≡ text_of reply.lines) × (reads ≡ reply.reads) × (begun ≡ reply.writes)
 
 -- From one moment to another these bytes were printed, and these reads and writes were begun; nothing else was done.
 pub record Did (before after : World) (printed : List ℕ) (reads : List Read) (begun : List Write) : Type 0 where
@@ -75,7 +93,8 @@ pub record Did (before after : World) (printed : List ℕ) (reads : List Read) (
   pub contents : GoesOn begun before.contents after.contents
 
 -- There is a reply of the model, for what the files held, that the call followed.
-pub record Answers (model : Given → Reply → Type 0) (words : List Word) (before after : World) (status : ℕ) : Type 0 where
+pub record Answers (model : Given → Reply → Type 0) (words : List Word) (before after : World) (status : ℕ)
+    : Type 0 where
   pub given : Given
   pub agrees : Agrees before.contents words given
   pub reply : Reply
@@ -92,12 +111,24 @@ pub record HasCauses (before after : World) (status : ℕ) : Type 0 where
   pub read_fault : status ≡ 3 → Rose before.read_faults after.read_faults
   pub write_fault : status ≡ 4 → Rose before.write_faults after.write_faults ⊎ Rose before.sink_faults after.sink_faults
   -- where a call on the files or the sink failed, the status is 3 or 4
-  pub no_fault : status ≢ 3 → status ≢ 4 → (after.read_faults ≡ before.read_faults) × (after.write_faults ≡ before.write_faults) × (after.sink_faults ≡ before.sink_faults)
+  pub no_fault :
+      status ≢ 3
+      → status ≢ 4
+      → (after.read_faults ≡ before.read_faults)
+          × (after.write_faults ≡ before.write_faults)
+          × (after.sink_faults ≡ before.sink_faults)
 
 -- ---- one line
 
--- How a line was printed: all of it, with its status; a part of it, where the sink failed; none, where memory was wanted.
+-- How a line was printed: all of it, with its status; a part of it, where the sink failed; none, where memory was
+-- wanted.
 pub data Said (held held' : Option (List ℕ)) (faults faults' status : ℕ) (line : List ℕ) (result : ℕ) : Type 0 where
-  whole : result ≡ status → held' ≡ holding held line → faults' ≡ faults → Said held held' faults faults' status line result
-  part : (n : ℕ) → result ≡ 4 → held' ≡ holding held (take n line) → Rose faults faults' → Said held held' faults faults' status line result
+  whole :
+      result ≡ status → held' ≡ holding held line → faults' ≡ faults → Said held held' faults faults' status line result
+  part :
+      (n : ℕ)
+      → result ≡ 4
+      → held' ≡ holding held (take n line)
+      → Rose faults faults'
+      → Said held held' faults faults' status line result
   none : result ≡ 5 → held' ≡ held → faults' ≡ faults → Said held held' faults faults' status line result

@@ -39,4 +39,9 @@ apply_words words = None
 -- the command that words say; there is none where they are outside the grammar
 abbrev pub command_of : List Word → Option Command
 command_of [] = None
-command_of (name ∷ words) = if bytes_eq name (codes "vm") then vm_words words else (if bytes_eq name (codes "init") then init_words words else (if bytes_eq name (codes "apply") then apply_words words else None))
+command_of (name ∷ words) =
+    if bytes_eq name (codes "vm")
+    then vm_words words
+    else (if bytes_eq name (codes "init")
+        then init_words words
+        else (if bytes_eq name (codes "apply") then apply_words words else None))

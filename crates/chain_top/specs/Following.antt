@@ -21,7 +21,8 @@ pub record Followed (model : Reply → Type 0) (before after : World) (status : 
   pub follows : Follows reply status printed reads begun
 
 -- The reply to one offer. Where it was followed to its end, the ledger then has the blocks that the model says.
-pub record OfferReply (hash : Hash) (check : Check) (ledger : Word) (blocks : List Block) (block : Block) (later : List Block) (status : ℕ) (reply : Reply) : Type 0 where
+pub record OfferReply (hash : Hash) (check : Check) (ledger : Word) (blocks : List Block) (block : Block)
+    (later : List Block) (status : ℕ) (reply : Reply) : Type 0 where
   pub after : List Block
   pub text : List ℕ
   pub writes : List Write
@@ -30,17 +31,23 @@ pub record OfferReply (hash : Hash) (check : Check) (ledger : Word) (blocks : Li
   pub kept : status ≡ 0 → later ≡ after
 
 -- the reply to a list of offers
-pub record OffersReply (hash : Hash) (check : Check) (ledger : Word) (blocks offers : List Block) (reply : Reply) : Type 0 where
+pub record OffersReply (hash : Hash) (check : Check) (ledger : Word) (blocks offers : List Block) (reply : Reply)
+    : Type 0 where
   pub lines : List Line
   pub writes : List Write
   pub applied : Applied hash check ledger blocks offers 0 lines writes
   pub is_reply : reply ≡ record { status = 0; lines = lines; reads = []; writes = writes }
 
--- Of a list of offers some were answered to the end: what was printed and written so far goes before what the rest does.
-pub record Front (hash : Hash) (check : Check) (ledger : Word) (blocks offers now rest : List Block) (before mid : World) : Type 0 where
+-- Of a list of offers some were answered to the end: what was printed and written so far goes before what the rest
+-- does.
+pub record Front (hash : Hash) (check : Check) (ledger : Word) (blocks offers now rest : List Block)
+    (before mid : World) : Type 0 where
   pub lines : List Line
   pub writes : List Write
-  pub onto : (more : List Line) (later : List Write) → Applied hash check ledger now rest (done_of writes) more later → Applied hash check ledger blocks offers 0 (lines ++ more) (writes ++ later)
+  pub onto :
+      (more : List Line) (later : List Write)
+      → Applied hash check ledger now rest (done_of writes) more later
+      → Applied hash check ledger blocks offers 0 (lines ++ more) (writes ++ later)
   pub past : AllByRecursion (λ line. line.after ≤ done_of writes) lines
   pub did : Did before mid (text_of lines) [] writes
 

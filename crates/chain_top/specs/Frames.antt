@@ -1,11 +1,13 @@
 -- A file of blocks: frames one after the other, each a length and the block that so many bytes spell.
-use Rattle.std.specs.Prelude.{◌≡◌, ◌≢◌, ℕ, ◌+◌, ◌≤◌, ◌<◌, List, [], ◌∷◌, ◌++◌, length, take, drop, Result, Ok, Err, codes}
+use Rattle.std.specs.Prelude.{◌≡◌, ◌≢◌, ℕ, ◌+◌, ◌≤◌, ◌<◌, List, [], ◌∷◌, ◌++◌, length, take, drop, Result, Ok, Err}
+use Rattle.std.specs.Prelude.{codes}
 use Rattle.std.specs.List.{flat_map, AllByRecursion}
 use Rattle.wire.specs.Spelling.{AreBytes, varint, varstring}
 use Rattle.wire.specs.Reading.{Read, varstring_at, IsTooBigString, IsNotShortest, IsShortString}
 use Rattle.data_model.specs.declared.block.Block.{Block}
 use Rattle.data_model.specs.declared.fault.DataKind.{DataKind}
-use Rattle.data_model.specs.declared.fault.DataKind.TheVariants.{Short, NotShortest, TooBig, Zero, Kind, Trailing, Count}
+use Rattle.data_model.specs.declared.fault.DataKind.TheVariants.{Short, NotShortest, TooBig, Zero, Kind, Trailing}
+use Rattle.data_model.specs.declared.fault.DataKind.TheVariants.{Count}
 use Rattle.data_model.specs.declared.fault.DataFault.{DataFault}
 use Rattle.data_model.specs.Layout.{FirstFault, block_layout, kind_of}
 use Rattle.data_model.specs.Spelling.{IsBlock, block_spelling}
@@ -52,7 +54,13 @@ pub data FrameFault (bytes : List ℕ) : ℕ → DataKind → Type 0 where
   -- its length is above the limit
   too_big : IsTooBigString longest_frame bytes → FrameFault bytes 0 TooBig
   -- its bytes are there, and spell no block
-  in_block : (held rest : List ℕ) {place at : ℕ} {kind : DataKind} → length held ≤ longest_frame → bytes ≡ varstring held ++ rest → FirstFault block_layout held place kind → at ≡ length (varint (length held)) + place → FrameFault bytes at kind
+  in_block :
+      (held rest : List ℕ) {place at : ℕ} {kind : DataKind}
+      → length held ≤ longest_frame
+      → bytes ≡ varstring held ++ rest
+      → FirstFault block_layout held place kind
+      → at ≡ length (varint (length held)) + place
+      → FrameFault bytes at kind
 
 -- Some whole frames stand at the front of the bytes, and what follows is not empty and begins with no whole frame.
 pub record FirstFileFault (bytes : List ℕ) (fault : FileFault) : Type 0 where
@@ -79,19 +87,46 @@ pub record FileLaws : Type 0 where
   -- all bytes read as something
   pub reads : (bytes : List ℕ) → AreBytes bytes → (reading : Result (List Block) FileFault) × FileReadsAs bytes reading
   -- and as one thing
-  pub one_reading : (bytes : List ℕ) (r s : Result (List Block) FileFault) → AreBytes bytes → FileReadsAs bytes r → FileReadsAs bytes s → r ≡ s
+  pub one_reading :
+      (bytes : List ℕ) (r s : Result (List Block) FileFault)
+      → AreBytes bytes
+      → FileReadsAs bytes r
+      → FileReadsAs bytes s
+      → r ≡ s
   -- no two lists of blocks have one file
   pub one_form : (xs ys : List Block) → AreFramed xs → AreFramed ys → file_spelling xs ≡ file_spelling ys → xs ≡ ys
   -- files one behind the other are a file of all their blocks
-  pub joined : (a b : List ℕ) (xs ys : List Block) → FileReadsAs a (Ok xs) → FileReadsAs b (Ok ys) → FileReadsAs (a ++ b) (Ok (xs ++ ys))
+  pub joined :
+      (a b : List ℕ) (xs ys : List Block)
+      → FileReadsAs a (Ok xs)
+      → FileReadsAs b (Ok ys)
+      → FileReadsAs (a ++ b) (Ok (xs ++ ys))
   -- a file of some blocks and others is the file of the some and the file of the others
-  pub parted : (bytes : List ℕ) (xs ys : List Block) → FileReadsAs bytes (Ok (xs ++ ys)) → (a : List ℕ) × (b : List ℕ) × (bytes ≡ a ++ b) × FileReadsAs a (Ok xs) × FileReadsAs b (Ok ys)
+  pub parted :
+      (bytes : List ℕ) (xs ys : List Block)
+      → FileReadsAs bytes (Ok (xs ++ ys))
+      → (a : List ℕ) × (b : List ℕ) × (bytes ≡ a ++ b) × FileReadsAs a (Ok xs) × FileReadsAs b (Ok ys)
   -- a frame behind a file
-  pub pushed : (bytes : List ℕ) (blocks : List Block) (block : Block) → FileReadsAs bytes (Ok blocks) → IsFramed block → FileReadsAs (bytes ++ frame_spelling block) (Ok (blocks ++ block ∷ []))
+  pub pushed :
+      (bytes : List ℕ) (blocks : List Block) (block : Block)
+      → FileReadsAs bytes (Ok blocks)
+      → IsFramed block
+      → FileReadsAs (bytes ++ frame_spelling block) (Ok (blocks ++ block ∷ []))
   -- a fault behind a file
-  pub behind : (a b : List ℕ) (xs : List Block) (f : FileFault) → FileReadsAs a (Ok xs) → FirstFileFault b f → FirstFileFault (a ++ b) (record { index = length xs + f.index; at = length a + f.at; kind = f.kind })
+  pub behind :
+      (a b : List ℕ) (xs : List Block) (f : FileFault)
+      → FileReadsAs a (Ok xs)
+      → FirstFileFault b f
+      → FirstFileFault (a ++ b) (record { index = length xs + f.index; at = length a + f.at; kind = f.kind })
   -- a frame behind a file, of which only some first bytes are there, is short at its first byte
-  pub torn : (bytes : List ℕ) (blocks : List Block) (block : Block) (k : ℕ) → FileReadsAs bytes (Ok blocks) → IsFramed block → 0 < k → k < length (frame_spelling block) → FirstFileFault (bytes ++ take k (frame_spelling block)) (record { index = length blocks; at = length bytes; kind = Short })
+  pub torn :
+      (bytes : List ℕ) (blocks : List Block) (block : Block) (k : ℕ)
+      → FileReadsAs bytes (Ok blocks)
+      → IsFramed block
+      → 0 < k
+      → k < length (frame_spelling block)
+      → FirstFileFault (bytes ++ take k (frame_spelling block))
+          (record { index = length blocks; at = length bytes; kind = Short })
 
 -- ---- the frame at the front of bytes, as a function of them
 

@@ -1,5 +1,6 @@
 -- What `apply` makes of the ledger's file, in the words of chains, and what a crash leaves of it.
-use Rattle.std.specs.Prelude.{◌≡◌, ◌≢◌, ℕ, ◌+◌, ◌≤◌, true, false, List, [], ◌∷◌, ◌++◌, length, Option, Some, None, Ok, IsSomeAnd, bytes_eq}
+use Rattle.std.specs.Prelude.{◌≡◌, ◌≢◌, ℕ, ◌+◌, ◌≤◌, true, false, List, [], ◌∷◌, ◌++◌, length, Option, Some, None, Ok}
+use Rattle.std.specs.Prelude.{IsSomeAnd, bytes_eq}
 use Rattle.wire.specs.Spelling.{AreBytes}
 use Rattle.data_model.specs.declared.block.Block.{Block}
 use Rattle.entry_ids.specs.Entry.{header_id}
@@ -24,13 +25,14 @@ abbrev pub appends : Word → List Block → List Write
 appends ledger [] = []
 appends ledger (block ∷ blocks) = write_of Append ledger (frame_spelling block) true ∷ appends ledger blocks
 
--- What is printed for offers with these verdicts, where so many blocks were added before: an added block is told once it is
--- appended.
+-- What is printed for offers with these verdicts, where so many blocks were added before: an added block is told once
+-- it is appended.
 abbrev pub offers_told : Hash → ℕ → List Block → List (Option BlockRefusal) → List Line
 offers_told hash before [] verdicts = []
 offers_told hash before (offer ∷ offers) [] = []
 offers_told hash before (offer ∷ offers) (None ∷ verdicts) =
-    record { text = accepted_line offer.header.height (header_id hash offer.header); after = before + 1 } ∷ offers_told hash (before + 1) offers verdicts
+    record { text = accepted_line offer.header.height (header_id hash offer.header); after = before + 1 }
+        ∷ offers_told hash (before + 1) offers verdicts
 offers_told hash before (offer ∷ offers) (Some line ∷ verdicts) =
     record { text = refused_block line; after = before } ∷ offers_told hash before offers verdicts
 
@@ -56,7 +58,8 @@ pub record Grows (hash : Hash) (check : Check) (ledger : Word) (first second : C
 -- The ledger's file has then these frames behind what it had, and every other file is as it was.
 abbrev pub EndsGrown : Word → List Block → (List ℕ → Content) → (List ℕ → Content) → Type 0
 EndsGrown ledger added before after =
-    (bytes_in (after ledger) ≡ bytes_in (before ledger) ++ file_spelling added) × ((name : List ℕ) → bytes_eq name ledger ≡ false → after name ≡ before name)
+    (bytes_in (after ledger) ≡ bytes_in (before ledger) ++ file_spelling added)
+        × ((name : List ℕ) → bytes_eq name ledger ≡ false → after name ≡ before name)
 
 -- ---- a crash
 
@@ -65,9 +68,9 @@ abbrev pub IsTorn : List Block → List ℕ → Type 0
 IsTorn [] torn = torn ≡ []
 IsTorn (block ∷ blocks) torn = length torn ≤ length (frame_spelling block)
 
--- What a crash leaves of a ledger that had these bytes, while the frames of these blocks were appended and so many appends
--- had been answered Ok: the bytes, the frames of the first blocks in order, those of the answered appends among them, and
--- then a torn one.
+-- What a crash leaves of a ledger that had these bytes, while the frames of these blocks were appended and so many
+-- appends had been answered Ok: the bytes, the frames of the first blocks in order, those of the answered appends among
+-- them, and then a torn one.
 pub record LeavesFront (bytes : List ℕ) (added : List Block) (answered : ℕ) (left : Content) : Type 0 where
   pub kept : List Block
   pub rest : List Block
@@ -78,7 +81,8 @@ pub record LeavesFront (bytes : List ℕ) (added : List Block) (answered : ℕ) 
   pub leaves : left ≡ Some (bytes ++ file_spelling kept ++ torn)
 
 -- A crash comes at a moment of a run of `apply` that has this reply; `seen` is what had been begun then.
-pub record ApplyCrash (hash : Hash) (check : Check) (ledger offers : Word) (before : List ℕ → Content) (reply : Reply) (begun seen : List Write) (left : List ℕ → Content) : Type 0 where
+pub record ApplyCrash (hash : Hash) (check : Check) (ledger offers : Word) (before : List ℕ → Content)
+    (reply : Reply) (begun seen : List Write) (left : List ℕ → Content) : Type 0 where
   pub is_reply : ApplyReply hash check ledger offers (before ledger) (before offers) reply
   pub begins : IsMoment reply.writes begun
   pub comes : IsMoment begun seen
@@ -88,16 +92,40 @@ pub record ApplyCrash (hash : Hash) (check : Check) (ledger offers : Word) (befo
 
 pub record GrowthLaws (hash : Hash) (check : Check) : Type 0 where
   -- where the run is done, the ledger grows by exactly the accepted blocks
-  pub grows : (ledger offers : Word) (first second : Content) (reply : Reply) → ApplyReply hash check ledger offers first second reply → reply.status ≡ 0 → Grows hash check ledger first second reply
+  pub grows :
+      (ledger offers : Word) (first second : Content) (reply : Reply)
+      → ApplyReply hash check ledger offers first second reply
+      → reply.status ≡ 0
+      → Grows hash check ledger first second reply
   -- and else nothing is written
-  pub stays : (ledger offers : Word) (first second : Content) (reply : Reply) → ApplyReply hash check ledger offers first second reply → reply.status ≢ 0 → reply.writes ≡ []
+  pub stays :
+      (ledger offers : Word) (first second : Content) (reply : Reply)
+      → ApplyReply hash check ledger offers first second reply
+      → reply.status ≢ 0
+      → reply.writes ≡ []
   -- what the files hold at the end
-  pub ends : (ledger : Word) (added : List Block) (before : List ℕ → Content) (after : Option (List ℕ → Content)) → GoesOn (appends ledger added) (Some before) after → IsSomeAnd after (EndsGrown ledger added before)
+  pub ends :
+      (ledger : Word) (added : List Block) (before : List ℕ → Content) (after : Option (List ℕ → Content))
+      → GoesOn (appends ledger added) (Some before) after
+      → IsSomeAnd after (EndsGrown ledger added before)
 
 pub record CrashLaws (hash : Hash) (check : Check) : Type 0 where
   -- a crash in a run whose files are read leaves a front of what the run would write
-  pub torn : (ledger offers : Word) (before left : List ℕ → Content) (reply : Reply) (begun seen : List Write) → ApplyCrash hash check ledger offers before reply begun seen left → (grows : Grows hash check ledger (before ledger) (before offers) reply) → LeavesFront (bytes_in (before ledger)) grows.added (done_of seen) (left ledger)
+  pub torn :
+      (ledger offers : Word) (before left : List ℕ → Content) (reply : Reply) (begun seen : List Write)
+      → ApplyCrash hash check ledger offers before reply begun seen left
+      → (grows : Grows hash check ledger (before ledger) (before offers) reply)
+      → LeavesFront (bytes_in (before ledger)) grows.added (done_of seen) (left ledger)
   -- one in a run that ends at a file leaves the ledger as it was
-  pub stays : (ledger offers : Word) (before left : List ℕ → Content) (reply : Reply) (begun seen : List Write) → ApplyCrash hash check ledger offers before reply begun seen left → reply.status ≢ 0 → left ledger ≡ before ledger
+  pub stays :
+      (ledger offers : Word) (before left : List ℕ → Content) (reply : Reply) (begun seen : List Write)
+      → ApplyCrash hash check ledger offers before reply begun seen left
+      → reply.status ≢ 0
+      → left ledger ≡ before ledger
   -- and every other file is as it was, in every run
-  pub others : (ledger offers : Word) (before left : List ℕ → Content) (reply : Reply) (begun seen : List Write) → ApplyCrash hash check ledger offers before reply begun seen left → (name : List ℕ) → bytes_eq name ledger ≡ false → left name ≡ before name
+  pub others :
+      (ledger offers : Word) (before left : List ℕ → Content) (reply : Reply) (begun seen : List Write)
+      → ApplyCrash hash check ledger offers before reply begun seen left
+      → (name : List ℕ)
+      → bytes_eq name ledger ≡ false
+      → left name ≡ before name

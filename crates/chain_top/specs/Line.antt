@@ -6,7 +6,8 @@ use Rattle.vm_num.specs.Failure.{failure_name}
 use Rattle.vm_run.specs.declared.verdict.Verdict.{Verdict}
 use Rattle.vm_run.specs.declared.verdict.Verdict.TheVariants.{Succeeded, Failed}
 use Rattle.ledger_core.specs.declared.refusal.StartFault.{StartFault}
-use Rattle.ledger_core.specs.declared.refusal.StartFault.TheVariants.{HeightNotOne, PreviousNotZero, VersionNotOne, NotEmpty, RootsNotEmpty}
+use Rattle.ledger_core.specs.declared.refusal.StartFault.TheVariants.{HeightNotOne, PreviousNotZero, VersionNotOne}
+use Rattle.ledger_core.specs.declared.refusal.StartFault.TheVariants.{NotEmpty, RootsNotEmpty}
 use Rattle.ledger_core.specs.declared.refusal.StartFault.TheVariants as starts
 use Rattle.ledger_core.specs.declared.refusal.BlockRefusal.{BlockRefusal}
 use Rattle.ledger_core.specs.declared.refusal.BlockRefusal.TheVariants.{B1, B2, B3, B4, B5, B6, B7, B9}
@@ -49,7 +50,10 @@ refused_size place = codes "refused size " ++ decimal place ++ newline
 
 -- `refused file K I AT KIND`
 abbrev pub refused_file_of : ℕ → ℕ → ℕ → List ℕ → List ℕ
-refused_file_of place index at kind = codes "refused file " ++ (decimal place ++ (codes " " ++ (decimal index ++ (codes " " ++ (decimal at ++ (codes " " ++ (kind ++ newline)))))))
+refused_file_of place index at kind =
+    codes "refused file "
+    ++ (decimal place
+        ++ (codes " " ++ (decimal index ++ (codes " " ++ (decimal at ++ (codes " " ++ (kind ++ newline)))))))
 
 abbrev pub refused_file : ℕ → ℕ → ℕ → DataKind → List ℕ
 refused_file place index at kind = refused_file_of place index at (kind_name kind)

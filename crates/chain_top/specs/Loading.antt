@@ -1,5 +1,6 @@
 -- What the files of blocks are that a command reads.
-use Rattle.std.specs.Prelude.{◌≡◌, ℕ, ◌<◌, ◌≤◌, Bool, false, List, [], ◌∷◌, ◌++◌, length, Some, None, Result, Ok, Err, nat_lt}
+use Rattle.std.specs.Prelude.{◌≡◌, ℕ, ◌<◌, ◌≤◌, Bool, false, List, [], ◌∷◌, ◌++◌, length, Some, None, Result, Ok, Err}
+use Rattle.std.specs.Prelude.{nat_lt}
 use Rattle.std.specs.List.{list_all}
 use Rattle.data_model.specs.declared.block.Block.{Block}
 use Rattle.data_model.specs.declared.fault.DataKind.TheVariants.{Count}
@@ -42,22 +43,53 @@ pub data BytesOf (place : ℕ) : Content → Result (List ℕ) Stop → Type 0 w
 pub data BlocksOf (place : ℕ) (content : Content) : Result (List Block × ℕ) Stop → Type 0 where
   stopped : {stop : Stop} → BytesOf place content (Err stop) → BlocksOf place content (Err stop)
   -- what has a number that is no byte is no file
-  no_file : {bytes : List ℕ} → BytesOf place content (Ok bytes) → are_bytes bytes ≡ false → BlocksOf place content (Err Missing)
+  no_file :
+      {bytes : List ℕ}
+      → BytesOf place content (Ok bytes)
+      → are_bytes bytes ≡ false
+      → BlocksOf place content (Err Missing)
   -- it does not read as frames
-  fault : {bytes : List ℕ} {fault : FileFault} → BytesOf place content (Ok bytes) → AreBytes bytes → FirstFileFault bytes fault → BlocksOf place content (Err (Refusing (refused_file place fault.index fault.at fault.kind)))
-  blocks : {bytes : List ℕ} {blocks : List Block} → BytesOf place content (Ok bytes) → AreBytes bytes → FileReadsAs bytes (Ok blocks) → BlocksOf place content (Ok (blocks, length bytes))
+  fault :
+      {bytes : List ℕ} {fault : FileFault}
+      → BytesOf place content (Ok bytes)
+      → AreBytes bytes
+      → FirstFileFault bytes fault
+      → BlocksOf place content (Err (Refusing (refused_file place fault.index fault.at fault.kind)))
+  blocks :
+      {bytes : List ℕ} {blocks : List Block}
+      → BytesOf place content (Ok bytes)
+      → AreBytes bytes
+      → FileReadsAs bytes (Ok blocks)
+      → BlocksOf place content (Ok (blocks, length bytes))
 
 -- these blocks are no chain, and this line says why
 pub data NoChain (hash : Hash) (check : Check) (blocks : List Block) : List ℕ → Type 0 where
   -- the ledger has no frame
   empty : blocks ≡ [] → NoChain hash check blocks (refused_file 1 0 0 Count)
   -- the first block starts none
-  no_start : (initial : Block) (later : List Block) (fault : StartFault) → blocks ≡ initial ∷ later → start_fault hash initial ≡ Some fault → NoChain hash check blocks (refused_ledger 0 (start_words fault))
+  no_start :
+      (initial : Block) (later : List Block) (fault : StartFault)
+      → blocks ≡ initial ∷ later
+      → start_fault hash initial ≡ Some fault
+      → NoChain hash check blocks (refused_ledger 0 (start_words fault))
   -- a later one does not extend those before it
-  no_next : (before : List Block) (block : Block) (later : List Block) (line : BlockRefusal) → blocks ≡ before ++ block ∷ later → Chain hash check before → Refusal hash check before block (Some line) → NoChain hash check blocks (refused_ledger (length before) (refusal_words line))
+  no_next :
+      (before : List Block) (block : Block) (later : List Block) (line : BlockRefusal)
+      → blocks ≡ before ++ block ∷ later
+      → Chain hash check before
+      → Refusal hash check before block (Some line)
+      → NoChain hash check blocks (refused_ledger (length before) (refusal_words line))
 
 -- the chain of a ledger, and its file's length
 pub data LedgerOf (hash : Hash) (check : Check) (content : Content) : Result (List Block × ℕ) Stop → Type 0 where
   ledger_stopped : {stop : Stop} → BlocksOf 1 content (Err stop) → LedgerOf hash check content (Err stop)
-  no_chain : {blocks : List Block} {len : ℕ} {line : List ℕ} → BlocksOf 1 content (Ok (blocks, len)) → NoChain hash check blocks line → LedgerOf hash check content (Err (Refusing line))
-  chain : {blocks : List Block} {len : ℕ} → BlocksOf 1 content (Ok (blocks, len)) → Chain hash check blocks → LedgerOf hash check content (Ok (blocks, len))
+  no_chain :
+      {blocks : List Block} {len : ℕ} {line : List ℕ}
+      → BlocksOf 1 content (Ok (blocks, len))
+      → NoChain hash check blocks line
+      → LedgerOf hash check content (Err (Refusing line))
+  chain :
+      {blocks : List Block} {len : ℕ}
+      → BlocksOf 1 content (Ok (blocks, len))
+      → Chain hash check blocks
+      → LedgerOf hash check content (Ok (blocks, len))

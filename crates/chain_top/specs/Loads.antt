@@ -1,5 +1,6 @@
 -- What the functions answer that read the files of a command.
-use Rattle.std.specs.Prelude.{◌≡◌, ◌⊎◌, ℕ, ◌+◌, ◌<◌, ◌≤◌, List, [], ◌∷◌, ◌++◌, length, Option, Some, None, Result, Ok, Err, string_bytes, string_len}
+use Rattle.std.specs.Prelude.{◌≡◌, ◌⊎◌, ℕ, ◌+◌, ◌<◌, ◌≤◌, List, [], ◌∷◌, ◌++◌, length, Option, Some, None, Result, Ok}
+use Rattle.std.specs.Prelude.{Err, string_bytes, string_len}
 use Rattle.data_model.specs.declared.block.Block.{Block}
 use Rattle.vm_run.specs.Row.{Check}
 use Rattle.wire.specs.Spelling.{AreBytes}
@@ -44,28 +45,46 @@ LookCounts old new (Err (Refused line)) = new ≡ old
 LookCounts old new (Ok x) = new ≡ old
 
 -- what was found is what the model says of what the file holds
-abbrev pub Told : {T X : Type 0} → (T → X) → (Content → Result X Stop → Type 0) → Option (List ℕ → Content) → Word → Result T Stopped → Type 0
+abbrev pub Told :
+    {T X : Type 0}
+    → (T → X)
+    → (Content → Result X Stop → Type 0)
+    → Option (List ℕ → Content)
+    → Word
+    → Result T Stopped
+    → Type 0
 Told view model contents name (Ok x) = (content : Content) × Holds contents name content × model content (Ok (view x))
-Told view model contents name (Err (Refused line)) = (content : Content) × Holds contents name content × model content (Err (Refusing (string_bytes line)))
+Told view model contents name (Err (Refused line)) =
+    (content : Content) × Holds contents name content × model content (Err (Refusing (string_bytes line)))
 Told view model contents name (Err ReadFault) = Unit {0}
 Told view model contents name (Err NoMemory) = Unit {0}
 
 -- bytes read as blocks
 abbrev pub BlocksRead : ℕ → List ℕ → Result (List Block) Stopped → Type 0
 BlocksRead place bytes (Ok blocks) = AreBytes bytes × FileReadsAs bytes (Ok blocks)
-BlocksRead place bytes (Err (Refused line)) = AreBytes bytes × (fault : FileFault) × FirstFileFault bytes fault × (string_bytes line ≡ refused_file place fault.index fault.at fault.kind)
+BlocksRead place bytes (Err (Refused line)) =
+    AreBytes bytes
+    × (fault : FileFault)
+    × FirstFileFault bytes fault
+    × (string_bytes line ≡ refused_file place fault.index fault.at fault.kind)
 BlocksRead place bytes (Err ReadFault) = ⊥
 BlocksRead place bytes (Err NoMemory) = Unit {0}
 
 -- a block starts no chain
 abbrev pub NotStarted : Hash → Block → Stopped → Type 0
-NotStarted hash block (Refused line) = (fault : StartFault) × (start_fault hash block ≡ Some fault) × (string_bytes line ≡ refused_ledger 0 (start_words fault))
+NotStarted hash block (Refused line) =
+    (fault : StartFault)
+    × (start_fault hash block ≡ Some fault)
+    × (string_bytes line ≡ refused_ledger 0 (start_words fault))
 NotStarted hash block ReadFault = ⊥
 NotStarted hash block NoMemory = Unit {0}
 
 -- a block does not extend these
 abbrev pub NotExtended : Hash → Check → List Block → Block → Stopped → Type 0
-NotExtended hash check blocks block (Refused line) = (refusal : BlockRefusal) × Refusal hash check blocks block (Some refusal) × (string_bytes line ≡ refused_ledger (length blocks) (refusal_words refusal))
+NotExtended hash check blocks block (Refused line) =
+    (refusal : BlockRefusal)
+    × Refusal hash check blocks block (Some refusal)
+    × (string_bytes line ≡ refused_ledger (length blocks) (refusal_words refusal))
 NotExtended hash check blocks block ReadFault = ⊥
 NotExtended hash check blocks block NoMemory = Unit {0}
 
@@ -82,11 +101,20 @@ EndsBy model reads ReadFault = (reply : Reply) × model reply × (rest : List Re
 EndsBy model reads NoMemory = (reply : Reply) × model reply × (rest : List Read) × (reply.reads ≡ reads ++ rest)
 
 -- both files of `apply`, by what they hold and the reads begun
-abbrev pub BothTold : Hash → Check → Word → Word → Content → Content → List Read → Result (Held × List Block) Stopped → Type 0
-BothTold hash check ledger offers first second reads (Ok x) = (n : ℕ) × (m : ℕ) × LedgerOf hash check first (Ok (x.0.blocks, n)) × BlocksOf 2 second (Ok (x.1, m)) × (n + m ≤ most_bytes) × (reads ≡ file_read ledger ∷ file_read offers ∷ [])
-BothTold hash check ledger offers first second reads (Err stop) = EndsBy (ApplyReply hash check ledger offers first second) reads stop
+abbrev pub BothTold :
+    Hash → Check → Word → Word → Content → Content → List Read → Result (Held × List Block) Stopped → Type 0
+BothTold hash check ledger offers first second reads (Ok x) =
+    (n : ℕ)
+    × (m : ℕ)
+    × LedgerOf hash check first (Ok (x.0.blocks, n))
+    × BlocksOf 2 second (Ok (x.1, m))
+    × (n + m ≤ most_bytes)
+    × (reads ≡ file_read ledger ∷ file_read offers ∷ [])
+BothTold hash check ledger offers first second reads (Err stop) =
+    EndsBy (ApplyReply hash check ledger offers first second) reads stop
 
-pub record BothLoaded (hash : Hash) (check : Check) (ledger offers : Word) (contents : Option (List ℕ → Content)) (old new : Option (List Read)) (result : Result (Held × List Block) Stopped) : Type 0 where
+pub record BothLoaded (hash : Hash) (check : Check) (ledger offers : Word) (contents : Option (List ℕ → Content))
+    (old new : Option (List Read)) (result : Result (Held × List Block) Stopped) : Type 0 where
   pub first : Content
   pub second : Content
   pub holds_first : Holds contents ledger first

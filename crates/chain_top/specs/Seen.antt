@@ -25,4 +25,5 @@ HasLimit (Some (rust.Apply ledger offers)) = Unit {0}
 abbrev pub Names : List Word → RustCommand → Type 0
 Names words (rust.Vm limit program args) = Unit {0}
 Names words (rust.Init ledger time program) = Unit {0}
-Names words (rust.Apply ledger offers) = (get_or words 1 [] ≡ string_bytes ledger.now) × (get_or words 2 [] ≡ string_bytes offers.now)
+Names words (rust.Apply ledger offers) =
+    (get_or words 1 [] ≡ string_bytes ledger.now) × (get_or words 2 [] ≡ string_bytes offers.now)

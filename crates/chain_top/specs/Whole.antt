@@ -27,6 +27,17 @@ pub record IsWhole (reply : Reply) (before after : World) (status : ℕ) : Type 
 
 pub record AnswerLaws (hash : Hash) (check : Check) : Type 0 where
   -- the model answers 1 exactly where the words are outside the grammar
-  pub usage : (words : List Word) (given : Given) (reply : Reply) → IsReply hash check words given reply → (reply.status ≡ 1) ↔ (command_of words ≡ None)
-  -- a call on files that tell what they hold, in which none failed, does all of the model's reply or ends for want of memory
-  pub whole : (words : List Word) (contents : List ℕ → Content) (before after : World) (status : ℕ) (reply : Reply) → before.contents ≡ Some contents → Answers (IsReply hash check words) words before after status → HasCauses before after status → NoneFailed before after → IsReply hash check words (held_by contents words) reply → IsWhole reply before after status ⊎ (status ≡ 5)
+  pub usage :
+      (words : List Word) (given : Given) (reply : Reply)
+      → IsReply hash check words given reply
+      → (reply.status ≡ 1) ↔ (command_of words ≡ None)
+  -- a call on files that tell what they hold, in which none failed, does all of the model's reply or ends for want of
+  -- memory
+  pub whole :
+      (words : List Word) (contents : List ℕ → Content) (before after : World) (status : ℕ) (reply : Reply)
+      → before.contents ≡ Some contents
+      → Answers (IsReply hash check words) words before after status
+      → HasCauses before after status
+      → NoneFailed before after
+      → IsReply hash check words (held_by contents words) reply
+      → IsWhole reply before after status ⊎ (status ≡ 5)

@@ -1,5 +1,6 @@
 -- What the words of a command are read as.
-use Rattle.std.specs.Prelude.{ℕ, suc, ◌==◌, ◌&&◌, ◌||◌, Bool, true, false, List, [], ◌∷◌, length, Option, Some, None, Result, Ok, Err, if◌then◌else◌, nat_le}
+use Rattle.std.specs.Prelude.{ℕ, suc, ◌==◌, ◌&&◌, ◌||◌, Bool, true, false, List, [], ◌∷◌, length, Option, Some, None}
+use Rattle.std.specs.Prelude.{Result, Ok, Err, if◌then◌else◌, nat_le}
 use Rattle.std.specs.Result.{result_ok}
 use Rattle.std.specs.List.{list_all}
 use Rattle.std.specs.Char.{is_ascii_digit}
@@ -21,7 +22,8 @@ is_decimal (d ∷ ds) = ((d == 48) && is_empty ds) || (nat_le 49 d && nat_le d 5
 
 -- a decimal word of at most so much, as a number
 unfoldable pub decimal_within : ℕ → Word → Option ℕ
-decimal_within most word = if is_decimal word && nat_le (digits_value 10 word) most then Some (digits_value 10 word) else None
+decimal_within most word =
+    if is_decimal word && nat_le (digits_value 10 word) most then Some (digits_value 10 word) else None
 
 -- the digits that a hex word has at most
 abbrev pub hex_most : ℕ

@@ -4,7 +4,8 @@ ghost use Rattle.data_model.specs.declared.block.Block.{Block};
 ghost use Rattle.data_model.specs.Spelling.{IsBlock};
 ghost use Rattle.data_model.specs.Reading.{Fault};
 ghost use Rattle.chain_top.specs.declared.frames.FramesFault.TheVariants.{NoMemory};
-ghost use Rattle.chain_top.specs.Frames.{IsFramed, AreFramed, frame_spelling, file_spelling, FileFault, FrameFault, FirstFileFault, FileLaws, FrameGives, FileGives, frame_at, kind_name};
+ghost use Rattle.chain_top.specs.Frames.{IsFramed, AreFramed, frame_spelling, file_spelling, FileFault, FrameFault};
+ghost use Rattle.chain_top.specs.Frames.{FirstFileFault, FileLaws, FrameGives, FileGives, frame_at, kind_name};
 
 use data_model::{Block, Blocks, DataFault, DataKind, block_readings, decode_block, encode_block};
 use std::alloc::Global;
@@ -47,7 +48,9 @@ pub fn read_frames(alloc: Global, bytes: &[u8]) -> Result<Blocks, FramesFault>
     ensures found { IfOk result (λ blocks. AreFramed blocks × (bytes.now ≡ file_spelling blocks)) }
 
     // What is spelled so is read, unless memory runs out.
-    ensures only { (blocks : List Block) → AreFramed blocks → bytes.now ≡ file_spelling blocks → FileGives result (Ok blocks) }
+    ensures only {
+        (blocks : List Block) → AreFramed blocks → bytes.now ≡ file_spelling blocks → FileGives result (Ok blocks)
+    }
 
     // What is told is the first fault, and the first fault is told, unless memory runs out.
     ensures fault { (f : FileFault) → result ≡ Err (FramesFault.At f.index f.at f.kind) → FirstFileFault bytes.now f }
@@ -91,7 +94,12 @@ pub fn next_frame(alloc: Global, bytes: &[u8]) -> Result<(Block, u64), DataFault
     ensures found { IfOk result (λ x. IsFramed x.0 × (bytes.now ≡ frame_spelling x.0 ++ drop x.1 bytes.now)) }
 
     // What is spelled so is read, whatever follows it, unless memory runs out.
-    ensures only { (block : Block) (rest : List ℕ) → IsFramed block → bytes.now ≡ frame_spelling block ++ rest → FrameGives bytes.now result (Ok (block, rest)) }
+    ensures only {
+        (block : Block) (rest : List ℕ)
+        → IsFramed block
+        → bytes.now ≡ frame_spelling block ++ rest
+        → FrameGives bytes.now result (Ok (block, rest))
+    }
 
     // What is told is the first fault, and the first fault is told, unless memory runs out.
     ensures fault { (f : Fault) → result ≡ Err (DataFault.At f.at f.kind) → FrameFault bytes.now f.at f.kind }

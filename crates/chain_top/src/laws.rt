@@ -11,7 +11,10 @@ use outside::{moments_join, others_stay, starts_kept};
 
 /// The model gives a reply to all words, whatever the files hold, and no two.
 pub fn one_reply()
-    ensures some { (hash : Hash) (check : Check) (words : List Word) (given : Given) → (reply : Reply) × IsReply hash check words given reply }
+    ensures some {
+        (hash : Hash) (check : Check) (words : List Word) (given : Given)
+        → (reply : Reply) × IsReply hash check words given reply
+    }
     ensures one { (hash : Hash) (check : Check) (words : List Word) (given : Given) (a b : Reply) →
         IsReply hash check words given a → IsReply hash check words given b → a ≡ b }
 {
@@ -30,8 +33,8 @@ pub fn growing_ledgers()
     ensures { (hash : Hash) (check : Check) → GrowthLaws hash check }
 {}
 
-/// A crash at any moment of `apply` leaves of a ledger what it had, the frames of the first blocks that are added, and a
-/// torn one.
+/// A crash at any moment of `apply` leaves of a ledger what it had, the frames of the first blocks that are added, and
+/// a torn one.
 pub fn torn_ledgers()
     ensures { (hash : Hash) (check : Check) → CrashLaws hash check }
 {

@@ -1,7 +1,8 @@
 // Printed lines, each with its newline.
 ghost use Rattle.std.specs.Prelude.{◌≡◌, ◌<◌, IfOk, string_bytes, string_len};
 ghost use Rattle.hex.specs.Hex.{encode_lower};
-ghost use Rattle.chain_top.specs.Line.{refused_hex, verdict_line, block_line, block_line_of, accepted_line, accepted_line_of};
+ghost use Rattle.chain_top.specs.Line.{refused_hex, verdict_line, block_line, block_line_of, accepted_line};
+ghost use Rattle.chain_top.specs.Line.{accepted_line_of};
 
 use std::alloc::{AllocError, Global};
 use vm_run::Verdict;

@@ -1,6 +1,7 @@
 // Printed refusals of files and of blocks.
 ghost use Rattle.std.specs.Prelude.{◌≡◌, ◌<◌, IfOk, string_bytes, string_len};
-ghost use Rattle.chain_top.specs.Line.{refused_size, refused_file, refused_file_of, refused_ledger, refused_words, refused_block, start_words, refusal_words, number_words, id_words, id_words_of};
+ghost use Rattle.chain_top.specs.Line.{refused_size, refused_file, refused_file_of, refused_ledger, refused_words};
+ghost use Rattle.chain_top.specs.Line.{refused_block, start_words, refusal_words, number_words, id_words, id_words_of};
 
 use crate::frames::kind_name;
 use crate::line::hex_text;

@@ -9,14 +9,31 @@ use Rattle.data_model.specs.Reading.{Fault, block_at}
 
 pub record BlockLaws : Type 0 where
   -- what is read is spelled so
-  pub spelled : (bytes : List ℕ) (block : Block) → AreBytes bytes → block_at bytes ≡ Ok block → IsBlock block × (bytes ≡ block_spelling block)
+  pub spelled :
+      (bytes : List ℕ) (block : Block)
+      → AreBytes bytes
+      → block_at bytes ≡ Ok block
+      → IsBlock block × (bytes ≡ block_spelling block)
   -- what is spelled is read again
   pub again : (block : Block) → IsBlock block → block_at (block_spelling block) ≡ Ok block
   -- no two blocks have one spelling
   pub one_form : (a b : Block) → IsBlock a → IsBlock b → block_spelling a ≡ block_spelling b → a ≡ b
   -- no header's spelling begins another's
-  pub one_header : (a b : Header) (x y : List ℕ) → IsHeader a → IsHeader b → header_spelling a ++ x ≡ header_spelling b ++ y → (a ≡ b) × (x ≡ y)
+  pub one_header :
+      (a b : Header) (x y : List ℕ)
+      → IsHeader a
+      → IsHeader b
+      → header_spelling a ++ x ≡ header_spelling b ++ y
+      → (a ≡ b) × (x ≡ y)
   -- what is told of other bytes is their first fault
-  pub fault : (bytes : List ℕ) (f : Fault) → AreBytes bytes → (block_at bytes ≡ Err f) ↔ FirstFault block_layout bytes f.at f.kind
+  pub fault :
+      (bytes : List ℕ) (f : Fault)
+      → AreBytes bytes
+      → (block_at bytes ≡ Err f) ↔ FirstFault block_layout bytes f.at f.kind
   -- bytes have at most one first fault
-  pub one_fault : (bytes : List ℕ) (f g : Fault) → AreBytes bytes → FirstFault block_layout bytes f.at f.kind → FirstFault block_layout bytes g.at g.kind → f ≡ g
+  pub one_fault :
+      (bytes : List ℕ) (f g : Fault)
+      → AreBytes bytes
+      → FirstFault block_layout bytes f.at f.kind
+      → FirstFault block_layout bytes g.at g.kind
+      → f ≡ g

@@ -52,7 +52,9 @@ abbrev pub args_layout : Layout
 args_layout = Many most_args (Then Text End) End
 
 abbrev pub header_layout : Layout
-header_layout = Then (Number greatest) (Then (Number greatest) (Then Id (Then (Number greatest) (Then Id (Then Id (Then Text End))))))
+header_layout =
+    Then (Number greatest)
+    (Then (Number greatest) (Then Id (Then (Number greatest) (Then Id (Then Id (Then Text End))))))
 
 abbrev pub block_layout : Layout
 block_layout = joined header_layout (joined args_layout (Then (Number most_txs) End))
@@ -84,7 +86,8 @@ kind_of wire.TooBig = TooBig
 
 -- a number that is too big for any, or above the most
 abbrev pub IsAbove : ℕ → List ℕ → Type 0
-IsAbove most bytes = IsTooBig bytes ⊎ ((n : ℕ) × (rest : List ℕ) × (bytes ≡ varint n ++ rest) × (n < 2 ^ 63) × (most < n))
+IsAbove most bytes =
+    IsTooBig bytes ⊎ ((n : ℕ) × (rest : List ℕ) × (bytes ≡ varint n ++ rest) × (n < 2 ^ 63) × (most < n))
 
 -- a field that begins these bytes has a fault of this kind
 abbrev pub FieldFault : Field → List ℕ → DataKind → Type 0
@@ -99,11 +102,30 @@ FieldFault Text bytes NotShortest = IsNotShortest bytes
 FieldFault Text bytes TooBig = IsTooBigString longest bytes
 FieldFault Text bytes _ = ⊥
 
--- Some fields of the layout, in order, are spelled at the front of the bytes, and the next one has a fault of this kind. It
--- stands at this place: behind all that is spelled. Where all fields are spelled, bytes that follow are the fault.
+-- Some fields of the layout, in order, are spelled at the front of the bytes, and the next one has a fault of this
+-- kind. It stands at this place: behind all that is spelled. Where all fields are spelled, bytes that follow are the
+-- fault.
 pub data FirstFault : Layout → List ℕ → ℕ → DataKind → Type 0 where
   trailing : {b : ℕ} {bytes : List ℕ} → FirstFault End (b ∷ bytes) 0 Trailing
-  here : {field : Field} {layout : Layout} {bytes : List ℕ} {kind : DataKind} → FieldFault field bytes kind → FirstFault (Then field layout) bytes 0 kind
-  later : {field : Field} {layout : Layout} {bytes : List ℕ} (front rest : List ℕ) {place at : ℕ} {kind : DataKind} → Spells field front → bytes ≡ front ++ rest → FirstFault layout rest place kind → at ≡ length front + place → FirstFault (Then field layout) bytes at kind
-  in_count : {most : ℕ} {each layout : Layout} {bytes : List ℕ} {kind : DataKind} → FieldFault (Number most) bytes kind → FirstFault (Many most each layout) bytes 0 kind
-  behind_count : {most : ℕ} (n : ℕ) {each layout : Layout} {bytes : List ℕ} (front rest : List ℕ) {place at : ℕ} {kind : DataKind} → IsNumberSpelling most n front → bytes ≡ front ++ rest → FirstFault (times n each layout) rest place kind → at ≡ length front + place → FirstFault (Many most each layout) bytes at kind
+  here :
+      {field : Field} {layout : Layout} {bytes : List ℕ} {kind : DataKind}
+      → FieldFault field bytes kind
+      → FirstFault (Then field layout) bytes 0 kind
+  later :
+      {field : Field} {layout : Layout} {bytes : List ℕ} (front rest : List ℕ) {place at : ℕ} {kind : DataKind}
+      → Spells field front
+      → bytes ≡ front ++ rest
+      → FirstFault layout rest place kind
+      → at ≡ length front + place
+      → FirstFault (Then field layout) bytes at kind
+  in_count :
+      {most : ℕ} {each layout : Layout} {bytes : List ℕ} {kind : DataKind}
+      → FieldFault (Number most) bytes kind
+      → FirstFault (Many most each layout) bytes 0 kind
+  behind_count :
+      {most : ℕ} (n : ℕ) {each layout : Layout} {bytes : List ℕ} (front rest : List ℕ) {place at : ℕ} {kind : DataKind}
+      → IsNumberSpelling most n front
+      → bytes ≡ front ++ rest
+      → FirstFault (times n each layout) rest place kind
+      → at ≡ length front + place
+      → FirstFault (Many most each layout) bytes at kind

@@ -1,5 +1,6 @@
 -- Reading from left to right, with the first fault that is met.
-use Rattle.std.specs.Prelude.{◌≡◌, ℕ, zero, suc, ◌+◌, ◌-◌, List, [], ◌∷◌, length, take, drop, Result, Ok, Err, nat_lt, ◌==◌, if◌then◌else◌}
+use Rattle.std.specs.Prelude.{◌≡◌, ℕ, zero, suc, ◌+◌, ◌-◌, List, [], ◌∷◌, length, take, drop, Result, Ok, Err, nat_lt}
+use Rattle.std.specs.Prelude.{◌==◌, if◌then◌else◌}
 use Rattle.wire.specs.Reading.{Read, varint_at, varstring_at}
 use Rattle.data_model.specs.declared.fault.DataKind.{DataKind}
 use Rattle.data_model.specs.declared.fault.DataKind.TheVariants.{Short, TooBig, Trailing}
@@ -49,7 +50,10 @@ number_at most place = do
   if nat_lt most n.0 then Err (fault_here place TooBig) else Ok n
 
 unfoldable pub id_at : Place → Reading (List ℕ)
-id_at place = if nat_lt (length place.rest) 32 then Err (fault_here place Short) else Ok (take 32 place.rest, moved place (drop 32 place.rest))
+id_at place =
+    if nat_lt (length place.rest) 32
+    then Err (fault_here place Short)
+    else Ok (take 32 place.rest, moved place (drop 32 place.rest))
 
 unfoldable pub text_at : Place → Reading (List ℕ)
 text_at place = spelling_at place (varstring_at longest place.rest)
@@ -77,7 +81,15 @@ header_at place = do
   tx_root ← id_at time.1
   unspent_root ← id_at tx_root.1
   next_program ← text_at unspent_root.1
-  Ok (record { version = version.0; height = height.0; previous = previous.0; time = time.0; tx_root = tx_root.0; unspent_root = unspent_root.0; next_program = next_program.0 }, next_program.1)
+  Ok (record {
+    version = version.0;
+    height = height.0;
+    previous = previous.0;
+    time = time.0;
+    tx_root = tx_root.0;
+    unspent_root = unspent_root.0;
+    next_program = next_program.0;
+  }, next_program.1)
 
 unfoldable pub next_block_at : Place → Reading Block
 next_block_at place = do

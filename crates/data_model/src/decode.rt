@@ -3,7 +3,8 @@ ghost use Rattle.std.specs.Prelude.{◌≡◌, ℕ, List, Ok, Err, IfOk};
 ghost use Rattle.data_model.specs.declared.block.Block.{Block};
 ghost use Rattle.data_model.specs.Layout.{FirstFault, block_layout};
 ghost use Rattle.data_model.specs.Spelling.{IsBlock, block_spelling};
-ghost use Rattle.data_model.specs.Reading.{Fault, Gives, Reads, text_at, times_at, args_at, header_at, next_block_at, block_at};
+ghost use Rattle.data_model.specs.Reading.{Fault, Gives, Reads, text_at, times_at, args_at, header_at, next_block_at};
+ghost use Rattle.data_model.specs.Reading.{block_at};
 
 use crate::cursor::Cursor;
 use crate::{Block, DataFault, DataKind, Header, Txs, block_readings};

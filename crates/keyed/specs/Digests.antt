@@ -22,8 +22,12 @@ unfolding digest_bytes
 words_bytes h zero i = omega arith
 words_bytes h (suc n) i =
     elim (cases_lt i (length (digest_bytes h n))) [
-      | inl lt ↦ rw (get_or_append_left (digest_bytes h n) (to_be_bytes w32 (slice_index h n)) 0 i lt) (words_bytes h n i)
-      | inr le ↦ rw (get_or-append_right (digest_bytes h n) (to_be_bytes w32 (slice_index h n)) (length (digest_bytes h n)) i 0 refl le) (word_bytes (slice_index h n) (i - length (digest_bytes h n)))
+      | inl lt ↦ rw (get_or_append_left (digest_bytes h n) (to_be_bytes w32 (slice_index h n)) 0 i lt)
+          (words_bytes h n i)
+      | inr le ↦ rw
+          (get_or-append_right (digest_bytes h n) (to_be_bytes w32 (slice_index h n)) (length (digest_bytes h n)) i 0
+              refl le)
+          (word_bytes (slice_index h n) (i - length (digest_bytes h n)))
     ]
 
 pub digest_bytes_fit : (m : List ℕ) (i : ℕ) → slice_index (sha256 m) i < 256

@@ -10,7 +10,8 @@ use Rattle.ledger_core.specs.Refusal.{Hash, start_fault, Refusal, ValidNext, tip
 -- each of the later blocks extends those before it
 abbrev pub GoesOn : Hash → Check → List Block → List Block → Type 0
 GoesOn hash check before [] = Unit {0}
-GoesOn hash check before (block ∷ later) = ValidNext hash check before block × GoesOn hash check (before ++ block ∷ []) later
+GoesOn hash check before (block ∷ later) =
+    ValidNext hash check before block × GoesOn hash check (before ++ block ∷ []) later
 
 -- the first block starts a chain, and each later one extends those before it
 abbrev pub Chain : Hash → Check → List Block → Type 0
@@ -31,12 +32,13 @@ Accepted hash check blocks [] final [] = final ≡ blocks
 Accepted hash check blocks [] final (verdict ∷ verdicts) = ⊥
 Accepted hash check blocks (offer ∷ offers) final [] = ⊥
 Accepted hash check blocks (offer ∷ offers) final (verdict ∷ verdicts) =
-    Refusal hash check blocks offer verdict × Accepted hash check (after_offer blocks offer verdict) offers final verdicts
+    Refusal hash check blocks offer verdict
+        × Accepted hash check (after_offer blocks offer verdict) offers final verdicts
 
 -- ---- ledgers
 
--- A ledger stands for a hash and a check of signatures: its blocks are a chain under them, and the id that it keeps is that
--- of the last one.
+-- A ledger stands for a hash and a check of signatures: its blocks are a chain under them, and the id that it keeps is
+-- that of the last one.
 pub record StandsFor (hash : Hash) (check : Check) (ledger : Held) : Type 0 where
   pub chain : Chain hash check ledger.blocks
   pub tip_id : (tip : Block) → tip_of ledger.blocks ≡ Some tip → ledger.tip_id ≡ header_id hash tip.header

@@ -9,31 +9,68 @@ use Rattle.ledger_core.specs.Chain.{Chain, Accepted, after_offer}
 
 -- a block that is offered after some blocks has a refusal or none, and no two
 pub record RefusalLaws (hash : Hash) (check : Check) : Type 0 where
-  pub some : (blocks : List Block) (block : Block) → 0 < length blocks → (line : Option BlockRefusal) × Refusal hash check blocks block line
-  pub one : (blocks : List Block) (block : Block) (a b : Option BlockRefusal) → Refusal hash check blocks block a → Refusal hash check blocks block b → a ≡ b
+  pub some :
+      (blocks : List Block) (block : Block)
+      → 0 < length blocks
+      → (line : Option BlockRefusal) × Refusal hash check blocks block line
+  pub one :
+      (blocks : List Block) (block : Block) (a b : Option BlockRefusal)
+      → Refusal hash check blocks block a
+      → Refusal hash check blocks block b
+      → a ≡ b
 
 pub record ValidLaws (hash : Hash) (check : Check) : Type 0 where
   -- a block without a fault is an initial block
   pub initial : (block : Block) → (start_fault hash block ≡ None) ↔ IsInitial hash block
   -- a block without a refusal extends the last block
-  pub next : (blocks : List Block) (block : Block) → ValidNext hash check blocks block ↔ ((tip : Block) × (tip_of blocks ≡ Some tip) × Extends hash check tip block)
+  pub next :
+      (blocks : List Block) (block : Block)
+      → ValidNext hash check blocks block ↔ ((tip : Block) × (tip_of blocks ≡ Some tip) × Extends hash check tip block)
 
 pub record ChainLaws (hash : Hash) (check : Check) : Type 0 where
   -- a chain has an initial block
   pub not_empty : (blocks : List Block) → Chain hash check blocks → 0 < length blocks
   -- heights count from 1
-  pub heights : (blocks : List Block) (tip : Block) → Chain hash check blocks → tip_of blocks ≡ Some tip → tip.header.height ≡ length blocks
+  pub heights :
+      (blocks : List Block) (tip : Block)
+      → Chain hash check blocks
+      → tip_of blocks ≡ Some tip
+      → tip.header.height ≡ length blocks
   -- a valid next block makes a longer chain
-  pub grows : (blocks : List Block) (block : Block) → Chain hash check blocks → ValidNext hash check blocks block → Chain hash check (blocks ++ block ∷ [])
+  pub grows :
+      (blocks : List Block) (block : Block)
+      → Chain hash check blocks
+      → ValidNext hash check blocks block
+      → Chain hash check (blocks ++ block ∷ [])
   -- and there is no other way to one
-  pub only : (blocks : List Block) (block : Block) → 0 < length blocks → Chain hash check (blocks ++ block ∷ []) → Chain hash check blocks × ValidNext hash check blocks block
+  pub only :
+      (blocks : List Block) (block : Block)
+      → 0 < length blocks
+      → Chain hash check (blocks ++ block ∷ [])
+      → Chain hash check blocks × ValidNext hash check blocks block
   -- offers keep a chain
-  pub kept : (start offers final : List Block) (verdicts : List (Option BlockRefusal)) → Chain hash check start → Accepted hash check start offers final verdicts → Chain hash check final
+  pub kept :
+      (start offers final : List Block) (verdicts : List (Option BlockRefusal))
+      → Chain hash check start
+      → Accepted hash check start offers final verdicts
+      → Chain hash check final
 
 pub record OfferLaws (hash : Hash) (check : Check) : Type 0 where
   -- each list of offers has final blocks and verdicts
-  pub some : (start offers : List Block) → 0 < length start → (final : List Block) × (verdicts : List (Option BlockRefusal)) × Accepted hash check start offers final verdicts
+  pub some :
+      (start offers : List Block)
+      → 0 < length start
+      → (final : List Block) × (verdicts : List (Option BlockRefusal)) × Accepted hash check start offers final verdicts
   -- and no two
-  pub one : (start offers a b : List Block) (u v : List (Option BlockRefusal)) → Accepted hash check start offers a u → Accepted hash check start offers b v → (a ≡ b) × (u ≡ v)
+  pub one :
+      (start offers a b : List Block) (u v : List (Option BlockRefusal))
+      → Accepted hash check start offers a u
+      → Accepted hash check start offers b v
+      → (a ≡ b) × (u ≡ v)
   -- one offer more
-  pub more : (start offers final : List Block) (verdicts : List (Option BlockRefusal)) (offer : Block) (verdict : Option BlockRefusal) → Accepted hash check start offers final verdicts → Refusal hash check final offer verdict → Accepted hash check start (offers ++ offer ∷ []) (after_offer final offer verdict) (verdicts ++ verdict ∷ [])
+  pub more :
+      (start offers final : List Block) (verdicts : List (Option BlockRefusal)) (offer : Block)
+          (verdict : Option BlockRefusal)
+      → Accepted hash check start offers final verdicts
+      → Refusal hash check final offer verdict
+      → Accepted hash check start (offers ++ offer ∷ []) (after_offer final offer verdict) (verdicts ++ verdict ∷ [])

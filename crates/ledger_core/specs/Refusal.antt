@@ -1,5 +1,6 @@
 -- Which blocks start a chain, and which extend it.
-use Rattle.std.specs.Prelude.{◌≡◌, ℕ, ◌+◌, ◌-◌, ◌==◌, ◌&&◌, not, List, [], length, replicate, slice_get, Option, Some, None, if◌then◌else◌, nat_le, bytes_eq}
+use Rattle.std.specs.Prelude.{◌≡◌, ℕ, ◌+◌, ◌-◌, ◌==◌, ◌&&◌, not, List, [], length, replicate, slice_get, Option, Some}
+use Rattle.std.specs.Prelude.{None, if◌then◌else◌, nat_le, bytes_eq}
 use Rattle.std.specs.Option.{option_or}
 use Rattle.data_model.specs.declared.header.Header.{Header}
 use Rattle.data_model.specs.declared.block.Block.{Block}
@@ -11,7 +12,8 @@ use Rattle.vm_run.specs.Row.{Check}
 use Rattle.vm_run.specs.declared.context.Context.TheVariants as contexts
 use Rattle.vm_run.specs.Verdict.{HasVerdict}
 use Rattle.ledger_core.specs.declared.refusal.StartFault.{StartFault}
-use Rattle.ledger_core.specs.declared.refusal.StartFault.TheVariants.{HeightNotOne, PreviousNotZero, VersionNotOne, NotEmpty, RootsNotEmpty}
+use Rattle.ledger_core.specs.declared.refusal.StartFault.TheVariants.{HeightNotOne, PreviousNotZero, VersionNotOne}
+use Rattle.ledger_core.specs.declared.refusal.StartFault.TheVariants.{NotEmpty, RootsNotEmpty}
 use Rattle.ledger_core.specs.declared.refusal.StartFault.TheVariants as starts
 use Rattle.ledger_core.specs.declared.refusal.BlockRefusal.{BlockRefusal}
 use Rattle.ledger_core.specs.declared.refusal.BlockRefusal.TheVariants.{B1, B2, B3, B4, B6, B7, B9}
@@ -31,7 +33,8 @@ start_fault hash block =
     else (if not (bytes_eq block.header.previous (replicate 32 0)) then Some PreviousNotZero
     else (if not (block.header.version == 1) then Some VersionNotOne
     else (if not (length block.txs == 0 && length block.args == 0) then Some NotEmpty
-    else (if not (bytes_eq block.header.tx_root (hash []) && bytes_eq block.header.unspent_root (hash [])) then Some RootsNotEmpty
+    else (if not (bytes_eq block.header.tx_root (hash []) && bytes_eq block.header.unspent_root (hash []))
+    then Some RootsNotEmpty
     else None))))
 
 -- ---- the block after
@@ -43,11 +46,18 @@ run_limit = 10000
 -- what the tip's next program is run in
 abbrev pub context_after : Hash → Header → Header → Context
 context_after hash tip header =
-    contexts.Block (record { block_id = header_id hash header; program = tip.next_program; next_program = header.next_program; time = header.time })
+    contexts.Block
+        (record {
+          block_id = header_id hash header;
+          program = tip.next_program;
+          next_program = header.next_program;
+          time = header.time;
+        })
 
 -- the verdict on the tip's next program
 abbrev pub HasVerdictAfter : Hash → Check → Header → Block → Verdict → Type 0
-HasVerdictAfter hash check tip block verdict = HasVerdict (context_after hash tip block.header) check tip.next_program block.args run_limit verdict
+HasVerdictAfter hash check tip block verdict =
+    HasVerdict (context_after hash tip block.header) check tip.next_program block.args run_limit verdict
 
 -- the first of the lines before the run that holds
 unfoldable pub before_run_of : Hash → Header → Header → Option BlockRefusal
@@ -62,15 +72,17 @@ before_run_of hash tip header =
 -- the first of the lines from the run on
 unfoldable pub from_run_of : Hash → Header → Verdict → Option BlockRefusal
 from_run_of hash header (Failed kind at) = Some (B7 kind at)
-from_run_of hash header (Succeeded left) = if not (bytes_eq header.unspent_root (hash [])) then Some (B9 (hash []) header.unspent_root) else None
+from_run_of hash header (Succeeded left) =
+    if not (bytes_eq header.unspent_root (hash [])) then Some (B9 (hash []) header.unspent_root) else None
 
 -- the last block
 abbrev pub tip_of : List Block → Option Block
 tip_of blocks = slice_get blocks (length blocks - 1)
 
--- The first line of the table that holds of a block which is offered after these blocks, or none. The last of them is the
--- tip, and its next program is run on the offered block's arguments.
-pub record Refusal (hash : Hash) (check : Check) (blocks : List Block) (block : Block) (line : Option BlockRefusal) : Type 0 where
+-- The first line of the table that holds of a block which is offered after these blocks, or none. The last of them is
+-- the tip, and its next program is run on the offered block's arguments.
+pub record Refusal (hash : Hash) (check : Check) (blocks : List Block) (block : Block) (line : Option BlockRefusal)
+    : Type 0 where
   pub tip : Block
   pub is_tip : tip_of blocks ≡ Some tip
   pub verdict : Verdict

@@ -6,8 +6,8 @@ use data_model::{Block, Blocks};
 use std::marker::Model;
 use wire::Id;
 
-/// A chain of blocks, from its initial block on. It is seen as its blocks and the id of the last of them, and stands for
-/// the hash and the check of signatures that it was made with.
+/// A chain of blocks, from its initial block on. It is seen as its blocks and the id of the last of them, and stands
+/// for the hash and the check of signatures that it was made with.
 #[derive(Debug, Drop)]
 pub struct Ledger {
     pub(crate) blocks: Blocks,
@@ -40,7 +40,14 @@ pub struct Tip<'a> {
 impl Ledger {
     /// The last block. It takes no memory.
     pub fn tip(&self) -> Tip<'_>
-        ensures block { (tip : Block) × (tip_of self.now.blocks ≡ Some tip) × (result.height ≡ tip.header.height) × (result.time ≡ tip.header.time) × (result.version ≡ tip.header.version) × (result.next_program.now ≡ tip.header.next_program) }
+        ensures block {
+            (tip : Block)
+            × (tip_of self.now.blocks ≡ Some tip)
+            × (result.height ≡ tip.header.height)
+            × (result.time ≡ tip.header.time)
+            × (result.version ≡ tip.header.version)
+            × (result.next_program.now ≡ tip.header.next_program)
+        }
         ensures id { result.id ≡ self.now.tip_id }
     {
         let block = self.tip_block();

@@ -1,5 +1,6 @@
 -- What a crash may leave, from the contents at the start of a run and the writes begun in it.
-use Rattle.std.specs.Prelude.{◌≡◌, ◌⊎◌, ◌≤◌, ℕ, Bool, true, false, List, [], ◌∷◌, ◌++◌, length, Some, MatchBool, bytes_eq}
+use Rattle.std.specs.Prelude.{◌≡◌, ◌⊎◌, ◌≤◌, ℕ, Bool, true, false, List, [], ◌∷◌, ◌++◌, length, Some, MatchBool}
+use Rattle.std.specs.Prelude.{bytes_eq}
 use Rattle.outside.specs.Files.{Content, Write, WriteKind, Append, Replace, IsAppended, ReadsAt}
 
 -- What a crash leaves of the written name after a write, by what a read gave before it and gives after it: after one
@@ -18,7 +19,9 @@ pub record State : Type 0 where
 -- how one write leads on
 abbrev pub StepAt : List ℕ → Write → State → State → Type 0
 StepAt name w old new =
-    ReadsAt w name old.read new.read × MatchBool (bytes_eq name w.name) (LeftAfter w.kind w.done w.bytes old.read new.read new.left) (new.left ≡ old.left)
+    ReadsAt w name old.read new.read
+        × MatchBool (bytes_eq name w.name) (LeftAfter w.kind w.done w.bytes old.read new.read new.left)
+            (new.left ≡ old.left)
 
 -- how several lead on, the first of them first
 abbrev pub Leads : List ℕ → List Write → State → State → Type 0
@@ -27,7 +30,8 @@ Leads name (w ∷ ws) old new = (mid : State) × StepAt name w old mid × Leads 
 
 -- what a crash may leave of a name once these writes have been begun, the last perhaps cut short
 abbrev pub MayLeave : List ℕ → Content → List Write → Content → Type 0
-MayLeave name start ws left = (read : Content) × Leads name ws (record { read = start; left = start }) (record { read = read; left = left })
+MayLeave name start ws left =
+    (read : Content) × Leads name ws (record { read = start; left = start }) (record { read = read; left = left })
 
 -- a write that has no answer yet, which is as good as one that failed
 abbrev pub cut_short : Write → Write
@@ -36,8 +40,14 @@ cut_short w = record w { done = false }
 -- what has been begun at some moment of a run whose writes are ws: some of them in order, the last perhaps cut short
 abbrev pub IsMoment : List Write → List Write → Type 0
 IsMoment ws seen =
-    ((rest : List Write) × (ws ≡ seen ++ rest)) ⊎ ((before : List Write) × (w : Write) × (rest : List Write) × (ws ≡ before ++ w ∷ rest) × (seen ≡ before ++ cut_short w ∷ []))
+    ((rest : List Write) × (ws ≡ seen ++ rest))
+        ⊎ ((before : List Write)
+            × (w : Write)
+            × (rest : List Write)
+            × (ws ≡ before ++ w ∷ rest)
+            × (seen ≡ before ++ cut_short w ∷ []))
 
 -- the contents that a crash at some moment of a run may leave
 abbrev pub CrashLeaves : (List ℕ → Content) → List Write → (List ℕ → Content) → Type 0
-CrashLeaves start ws left = (seen : List Write) × IsMoment ws seen × ((name : List ℕ) → MayLeave name (start name) seen (left name))
+CrashLeaves start ws left =
+    (seen : List Write) × IsMoment ws seen × ((name : List ℕ) → MayLeave name (start name) seen (left name))

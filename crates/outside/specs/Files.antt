@@ -1,5 +1,6 @@
 -- What the calls on files do to their contents, and what of them is begun.
-use Rattle.std.specs.Prelude.{◌≡◌, ◌⊎◌, ◌+◌, ℕ, Bool, true, false, List, [], ◌∷◌, ◌++◌, take, Option, Some, None, IsNone, IfSome, IsSomeAnd, MatchBool, Result, Ok, Err, bytes_eq}
+use Rattle.std.specs.Prelude.{◌≡◌, ◌⊎◌, ◌+◌, ℕ, Bool, true, false, List, [], ◌∷◌, ◌++◌, take, Option, Some, None}
+use Rattle.std.specs.Prelude.{IsNone, IfSome, IsSomeAnd, MatchBool, Result, Ok, Err, bytes_eq}
 use Rattle.std.specs.Option.{option_map}
 use Rattle.outside.specs.declared.fault.FileFault.{FileFault}
 use Rattle.outside.specs.declared.fault.FileFault.TheVariants.{Failed, NoMemory}
@@ -46,21 +47,26 @@ ReadsAt w name old new = MatchBool (bytes_eq name w.name) (ReadsAfter w.kind w.d
 
 -- the first most + 1 bytes of a file that is there, where the contents are told
 abbrev pub ReadGives : Option (List ℕ → Content) → List ℕ → ℕ → List ℕ → Type 0
-ReadGives contents name most bytes = IfSome contents (λ of. IsSomeAnd (of name) (λ whole. bytes ≡ take (most + 1) whole))
+ReadGives contents name most bytes =
+    IfSome contents (λ of. IsSomeAnd (of name) (λ whole. bytes ≡ take (most + 1) whole))
 
 -- a read is begun where it is answered Ok or Failed
 abbrev pub ReadBegun : {T : Type 0} → List ℕ → ℕ → Result T FileFault → Option (List Read) → Option (List Read) → Type 0
 ReadBegun name most (Ok _) old new = new ≡ option_map (λ reads. reads ++ record { name = name; most = most } ∷ []) old
-ReadBegun name most (Err Failed) old new = new ≡ option_map (λ reads. reads ++ record { name = name; most = most } ∷ []) old
+ReadBegun name most (Err Failed) old new =
+    new ≡ option_map (λ reads. reads ++ record { name = name; most = most } ∷ []) old
 ReadBegun name most (Err NoMemory) old new = new ≡ old
 
 -- and so is a write
 abbrev pub write_of : WriteKind → List ℕ → List ℕ → Bool → Write
 write_of kind name bytes done = record { kind = kind; name = name; bytes = bytes; done = done }
 
-abbrev pub WriteBegun : {T : Type 0} → WriteKind → List ℕ → List ℕ → Result T FileFault → Option (List Write) → Option (List Write) → Type 0
-WriteBegun kind name bytes (Ok _) old new = new ≡ option_map (λ writes. writes ++ write_of kind name bytes true ∷ []) old
-WriteBegun kind name bytes (Err Failed) old new = new ≡ option_map (λ writes. writes ++ write_of kind name bytes false ∷ []) old
+abbrev pub WriteBegun :
+    {T : Type 0} → WriteKind → List ℕ → List ℕ → Result T FileFault → Option (List Write) → Option (List Write) → Type 0
+WriteBegun kind name bytes (Ok _) old new =
+    new ≡ option_map (λ writes. writes ++ write_of kind name bytes true ∷ []) old
+WriteBegun kind name bytes (Err Failed) old new =
+    new ≡ option_map (λ writes. writes ++ write_of kind name bytes false ∷ []) old
 WriteBegun kind name bytes (Err NoMemory) old new = new ≡ old
 
 -- every name goes on as the write says, where the contents are told
@@ -69,7 +75,15 @@ AllRead w None new = IsNone new
 AllRead w (Some old) new = IsSomeAnd new (λ now. (name : List ℕ) → ReadsAt w name (old name) (now name))
 
 -- what a write does to the contents
-abbrev pub Wrote : {T : Type 0} → WriteKind → List ℕ → List ℕ → Result T FileFault → Option (List ℕ → Content) → Option (List ℕ → Content) → Type 0
+abbrev pub Wrote :
+    {T : Type 0}
+    → WriteKind
+    → List ℕ
+    → List ℕ
+    → Result T FileFault
+    → Option (List ℕ → Content)
+    → Option (List ℕ → Content)
+    → Type 0
 Wrote kind name bytes (Ok _) old new = AllRead (write_of kind name bytes true) old new
 Wrote kind name bytes (Err Failed) old new = AllRead (write_of kind name bytes false) old new
 Wrote kind name bytes (Err NoMemory) old new = new ≡ old

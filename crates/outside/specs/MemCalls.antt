@@ -30,7 +30,10 @@ with_failed_read name most s =
 -- a write begun, answered Ok
 abbrev pub with_write : WriteKind → List ℕ → List ℕ → MemFilesState → MemFilesState
 with_write kind name bytes s =
-    record s { files = finite.insert s.files name (content_after kind (finite.get s.files name) bytes); writes = s.writes ++ write_of kind name bytes true ∷ [] }
+    record s {
+      files = finite.insert s.files name (content_after kind (finite.get s.files name) bytes);
+      writes = s.writes ++ write_of kind name bytes true ∷ [];
+    }
 
 -- a write begun that failed: the content stays
 abbrev pub with_failed_write : WriteKind → List ℕ → List ℕ → MemFilesState → MemFilesState

@@ -31,7 +31,11 @@ abbrev pub text_code : Coded (List ℕ)
 text_code = coded_list coded_ℕ
 
 abbrev pub read_code : Coded Read
-read_code = code_by (List ℕ × ℕ) (coded× text_code coded_ℕ) (λ r. (r.name, r.most)) (λ p. record { name = p.0; most = p.1 }) (λ _. refl)
+read_code =
+    code_by (List ℕ × ℕ) (coded× text_code coded_ℕ)
+    (λ r. (r.name, r.most))
+    (λ p. record { name = p.0; most = p.1 })
+    (λ _. refl)
 
 abbrev pub is_append : WriteKind → Bool
 is_append Append = true
@@ -51,12 +55,25 @@ kind_code = code_by Bool coded_bool is_append kind_of kind_again
 abbrev pub write_code : Coded Write
 write_code =
     code_by (WriteKind × (List ℕ × (List ℕ × Bool))) (coded× kind_code (coded× text_code (coded× text_code coded_bool)))
-    (λ w. (w.kind, (w.name, (w.bytes, w.done)))) (λ p. record { kind = p.0; name = p.1.0; bytes = p.1.1.0; done = p.1.1.1 }) (λ _. refl)
+    (λ w. (w.kind, (w.name, (w.bytes, w.done))))
+    (λ p. record { kind = p.0; name = p.1.0; bytes = p.1.1.0; done = p.1.1.1 })
+    (λ _. refl)
 
 abbrev pub state_code : Coded MemFilesState
 state_code =
     code_by (Contents × (ℕ × (List ℕ × (List Read × (List Write × (ℕ × ℕ))))))
-    (coded× (map.code text_code text_code) (coded× coded_ℕ (coded× text_code (coded× (coded_list read_code) (coded× (coded_list write_code) (coded× coded_ℕ coded_ℕ))))))
+    (coded× (map.code text_code text_code)
+        (coded× coded_ℕ
+            (coded× text_code
+                (coded× (coded_list read_code) (coded× (coded_list write_code) (coded× coded_ℕ coded_ℕ))))))
     (λ s. (s.files, (s.calls, (s.fails, (s.reads, (s.writes, (s.read_faults, s.write_faults)))))))
-    (λ p. record { files = p.0; calls = p.1.0; fails = p.1.1.0; reads = p.1.1.1.0; writes = p.1.1.1.1.0; read_faults = p.1.1.1.1.1.0; write_faults = p.1.1.1.1.1.1 })
+    (λ p. record {
+      files = p.0;
+      calls = p.1.0;
+      fails = p.1.1.0;
+      reads = p.1.1.1.0;
+      writes = p.1.1.1.1.0;
+      read_faults = p.1.1.1.1.1.0;
+      write_faults = p.1.1.1.1.1.1;
+    })
     (λ _. refl)

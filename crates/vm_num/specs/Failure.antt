@@ -1,7 +1,9 @@
 -- The names of failures, as they are printed.
 use Rattle.std.specs.Prelude.{ℕ, List, codes}
 use Rattle.vm_num.specs.declared.failure.Failure.{Failure}
-use Rattle.vm_num.specs.declared.failure.Failure.TheVariants.{RunLimit, Underflow, AltUnderflow, BadNumber, Range, DivZero, BadOpcode, Short, BadJump, VerifyFalse, FailCode, Context, BadValue, FalseResult}
+use Rattle.vm_num.specs.declared.failure.Failure.TheVariants.{RunLimit, Underflow, AltUnderflow, BadNumber, Range}
+use Rattle.vm_num.specs.declared.failure.Failure.TheVariants.{DivZero, BadOpcode, Short, BadJump, VerifyFalse, FailCode}
+use Rattle.vm_num.specs.declared.failure.Failure.TheVariants.{Context, BadValue, FalseResult}
 
 abbrev pub failure_name : Failure → List ℕ
 failure_name RunLimit = codes "RunLimit"

@@ -1,5 +1,6 @@
 -- Items of the machine's stacks, and what they are read as.
-use Rattle.std.specs.Prelude.{ℕ, ◌+◌, ◌-◌, ◌<◌, ◌^◌, ◌==◌, Bool, List, [], ◌∷◌, ◌++◌, length, Option, Some, None, if◌then◌else◌, nat_le, nat_lt, sum_by, not, replicate, ℤ, pos, negsuc, ◌+ℤ◌, ◌-ℤ◌, get_or}
+use Rattle.std.specs.Prelude.{ℕ, ◌+◌, ◌-◌, ◌<◌, ◌^◌, ◌==◌, Bool, List, [], ◌∷◌, ◌++◌, length, Option, Some, None}
+use Rattle.std.specs.Prelude.{if◌then◌else◌, nat_le, nat_lt, sum_by, not, replicate, ℤ, pos, negsuc, ◌+ℤ◌, ◌-ℤ◌, get_or}
 use Rattle.std.specs.List.{list_any}
 use Rattle.std.specs.Int.{w64, to_le_bytes, from_le_bytes, cast_signed, cast_unsigned}
 
@@ -21,7 +22,8 @@ total_cost items = sum_by cost items
 
 -- the item as a number: filled with zero bytes to 8, read little-endian, in two's complement; none past 8 bytes
 unfoldable pub num : Item → Option ℤ
-num b = if nat_le (length b) 8 then Some (cast_signed w64 (from_le_bytes w64 (b ++ replicate (8 - length b) 0))) else None
+num b =
+    if nat_le (length b) 8 then Some (cast_signed w64 (from_le_bytes w64 (b ++ replicate (8 - length b) 0))) else None
 
 -- b in front, but where it is zero and nothing follows
 abbrev pub onto : ℕ → List ℕ → List ℕ

@@ -1,5 +1,6 @@
 -- What each instruction does: the code table. What a program is run for, `Context`, is the type that the code has.
-use Rattle.std.specs.Prelude.{ℕ, ◌+◌, ◌-◌, ◌^◌, ◌<◌, ◌==◌, ◌&&◌, Bool, true, false, List, [], ◌∷◌, length, min, Option, Some, None, if◌then◌else◌, nat_le, bytes_eq, ℤ, pos, negsuc, int_lt}
+use Rattle.std.specs.Prelude.{ℕ, ◌+◌, ◌-◌, ◌^◌, ◌<◌, ◌==◌, ◌&&◌, Bool, true, false, List, [], ◌∷◌, length, min, Option}
+use Rattle.std.specs.Prelude.{Some, None, if◌then◌else◌, nat_le, bytes_eq, ℤ, pos, negsuc, int_lt}
 use Rattle.std.specs.Ordering.{int_eq}
 use Rattle.std.specs.Option.{option_map}
 use Rattle.vm_num.specs.Item.{Item, num, num_bytes, is_true, sum_of, difference_of}
@@ -7,7 +8,6 @@ use Rattle.vm_num.specs.declared.failure.Failure.{Failure}
 use Rattle.vm_num.specs.declared.failure.Failure.TheVariants.{Underflow, BadNumber, Range, BadOpcode, VerifyFalse}
 use Rattle.vm_num.specs.declared.failure.Failure.TheVariants as failures
 use Rattle.vm_code.specs.Instruction.{Decoded}
-use Rattle.vm_code.specs.declared.codes.TheConstants.{NEGATIVE_ONE, ONE, SIXTEEN, PUSHDATA4, VERIFY, DROP, DUP, EQUAL, ADD, SUB, NUMEQUAL, LESSTHAN, BLOCKHASH, PROGRAM, NEXTPROGRAM, BLOCKTIME}
 pub use Rattle.vm_run.specs.declared.context.Context.{Context}
 pub use Rattle.vm_run.specs.declared.context.Context.TheVariants.{Nothing, Block}
 pub use Rattle.vm_run.specs.declared.context.BlockContext.{BlockContext}
@@ -76,7 +76,8 @@ of_numbers f a b (Some x) None = Faults BadNumber
 abbrev pub number_row : (ℤ → ℤ → Option Item) → Item → Item → Row
 number_row f a b = of_numbers f a b (num a) (num b)
 
--- the sum and the difference, where they are 64-bit numbers; whether two numbers are equal; whether the deeper one is the less
+-- the sum and the difference, where they are 64-bit numbers; whether two numbers are equal; whether the deeper one is
+-- the less
 abbrev pub sum_item : ℤ → ℤ → Option Item
 sum_item x y = option_map num_bytes (sum_of x y)
 
@@ -112,25 +113,25 @@ abbrev pub first_line : List (Bool × Row) → Row
 first_line [] = Faults BadOpcode
 first_line (line ∷ lines) = if line.0 then line.1 else first_line lines
 
--- The table: whether a line is that of an instruction's code, and the line, in a context, on the program's length and on
--- the items of the data stack and of the alt stack, the top first in each.
+-- The table: whether a line is that of an instruction's code, and the line, in a context, on the program's length and
+-- on the items of the data stack and of the alt stack, the top first in each.
 abbrev pub table : Context → Check → Decoded → ℕ → List Item → List Item → List (Bool × Row)
 table context check i size items alt =
-    (nat_le i.code PUSHDATA4, push_row i.pushed)
-    ∷ (i.code == NEGATIVE_ONE, push_row (num_bytes (negsuc 0)))
-    ∷ (nat_le ONE i.code && nat_le i.code SIXTEEN, push_row (num_bytes (pos (i.code - 80))))
-    ∷ (i.code == VERIFY, on_one verify_row items)
-    ∷ (i.code == DROP, on_one drop_row items)
-    ∷ (i.code == DUP, on_one dup_row items)
-    ∷ (i.code == EQUAL, on_two equal_row items)
-    ∷ (i.code == ADD, on_two (number_row sum_item) items)
-    ∷ (i.code == SUB, on_two (number_row difference_item) items)
-    ∷ (i.code == NUMEQUAL, on_two (number_row equality_item) items)
-    ∷ (i.code == LESSTHAN, on_two (number_row less_item) items)
-    ∷ (i.code == BLOCKHASH, in_block (λ b. push_row b.block_id) context)
-    ∷ (i.code == PROGRAM, in_block (λ b. push_row b.program) context)
-    ∷ (i.code == NEXTPROGRAM, in_block (λ b. push_row b.next_program) context)
-    ∷ (i.code == BLOCKTIME, in_block (λ b. push_row (num_bytes (pos b.time))) context)
+    (nat_le i.code 0x4e, push_row i.pushed) -- FALSE and the codes of data
+    ∷ (i.code == 0x4f, push_row (num_bytes (negsuc 0))) -- 1NEGATE
+    ∷ (nat_le 0x51 i.code && nat_le i.code 0x60, push_row (num_bytes (pos (i.code - 0x50)))) -- 1 to 16
+    ∷ (i.code == 0x69, on_one verify_row items) -- VERIFY
+    ∷ (i.code == 0x75, on_one drop_row items) -- DROP
+    ∷ (i.code == 0x76, on_one dup_row items) -- DUP
+    ∷ (i.code == 0x87, on_two equal_row items) -- EQUAL
+    ∷ (i.code == 0x93, on_two (number_row sum_item) items) -- ADD
+    ∷ (i.code == 0x94, on_two (number_row difference_item) items) -- SUB
+    ∷ (i.code == 0x9c, on_two (number_row equality_item) items) -- NUMEQUAL
+    ∷ (i.code == 0x9f, on_two (number_row less_item) items) -- LESSTHAN
+    ∷ (i.code == 0xaf, in_block (λ b. push_row b.block_id) context) -- BLOCKHASH
+    ∷ (i.code == 0xc4, in_block (λ b. push_row b.program) context) -- PROGRAM
+    ∷ (i.code == 0xcd, in_block (λ b. push_row b.next_program) context) -- NEXTPROGRAM
+    ∷ (i.code == 0xce, in_block (λ b. push_row (num_bytes (pos b.time))) context) -- BLOCKTIME
     ∷ []
 
 unfoldable pub row : Context → Check → Decoded → ℕ → List Item → List Item → Row

@@ -32,7 +32,8 @@ abbrev pub paid : ℕ → List Item → List Item → ℕ → Effect → Move
 paid place items alt limit e =
     if nat_lt limit e.base then Stops failures.RunLimit
     else (if nat_lt (limit - e.base + total_cost e.popped) (total_cost e.pushed) then Stops failures.RunLimit
-    else Goes place (e.pushed ++ drop (length e.popped) items) alt (limit - e.base + total_cost e.popped - total_cost e.pushed) e.base)
+    else Goes place (e.pushed ++ drop (length e.popped) items) alt
+        (limit - e.base + total_cost e.popped - total_cost e.pushed) e.base)
 
 abbrev pub row_move : ℕ → List Item → List Item → ℕ → Row → Move
 row_move place items alt limit (Faults kind) = Stops kind
@@ -44,7 +45,8 @@ failure_of misread.BadOpcode = failures.BadOpcode
 
 abbrev pub instruction_move : Context → Check → ℕ → ℕ → List Item → List Item → ℕ → Result Decoded Misread → Move
 instruction_move context check size place items alt limit (Err why) = Stops (failure_of why)
-instruction_move context check size place items alt limit (Ok i) = row_move (place + i.len) items alt limit (row context check i size items alt)
+instruction_move context check size place items alt limit (Ok i) =
+    row_move (place + i.len) items alt limit (row context check i size items alt)
 
 -- the instruction at a place of a program, on these items and with this limit left
 unfoldable pub move : Context → Check → List ℕ → ℕ → List Item → List Item → ℕ → Move
@@ -54,8 +56,22 @@ move context check program place items alt limit =
 -- the runs of a program, from a place on, with the items of both stacks (the top first) and the limit left there
 pub data Run (context : Context) (check : Check) : List ℕ → ℕ → List Item → List Item → ℕ → Outcome → Type 0 where
   -- at the program's end
-  at_end : {program : List ℕ} {place : ℕ} {items alt : List Item} {limit : ℕ} → place ≡ length program → Run context check program place items alt limit (Ended limit items alt 0 0 0)
+  at_end :
+      {program : List ℕ} {place : ℕ} {items alt : List Item} {limit : ℕ}
+      → place ≡ length program
+      → Run context check program place items alt limit (Ended limit items alt 0 0 0)
   -- an instruction fails
-  fails : {program : List ℕ} {place : ℕ} {items alt : List Item} {limit : ℕ} {kind : Failure} → place < length program → move context check program place items alt limit ≡ Stops kind → Run context check program place items alt limit (FailedAt kind place 0)
+  fails :
+      {program : List ℕ} {place : ℕ} {items alt : List Item} {limit : ℕ} {kind : Failure}
+      → place < length program
+      → move context check program place items alt limit ≡ Stops kind
+      → Run context check program place items alt limit (FailedAt kind place 0)
   -- an instruction completes, and the run goes on behind it
-  goes_on : {program : List ℕ} {place : ℕ} {items alt : List Item} {limit : ℕ} {next : ℕ} {items' alt' : List Item} {left base : ℕ} {outcome whole : Outcome} → place < length program → move context check program place items alt limit ≡ Goes next items' alt' left base → Run context check program next items' alt' left outcome → whole ≡ one_more base outcome → Run context check program place items alt limit whole
+  goes_on :
+      {program : List ℕ} {place : ℕ} {items alt : List Item} {limit : ℕ} {next : ℕ} {items' alt' : List Item}
+          {left base : ℕ} {outcome whole : Outcome}
+      → place < length program
+      → move context check program place items alt limit ≡ Goes next items' alt' left base
+      → Run context check program next items' alt' left outcome
+      → whole ≡ one_more base outcome
+      → Run context check program place items alt limit whole

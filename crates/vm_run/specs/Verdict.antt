@@ -14,18 +14,28 @@ top_is_true (t ∷ items) = is_true t
 
 -- what an outcome says of a program of this length
 abbrev pub verdict_of : ℕ → Outcome → Verdict
-verdict_of size (Ended left items alt count spent lost) = if top_is_true items then Succeeded left else Failed FalseResult size
+verdict_of size (Ended left items alt count spent lost) =
+    if top_is_true items then Succeeded left else Failed FalseResult size
 verdict_of size (FailedAt kind place count) = Failed kind place
 
 -- what the run from a place on says
 abbrev pub VerdictFrom : Context → Check → List ℕ → ℕ → List Item → ℕ → Verdict → Type 0
-VerdictFrom context check program place items left verdict = (o : Outcome) × Run context check program place items [] left o × (verdict ≡ verdict_of (length program) o)
+VerdictFrom context check program place items left verdict =
+    (o : Outcome) × Run context check program place items [] left o × (verdict ≡ verdict_of (length program) o)
 
 -- the run on arguments that are paid for, the first of them deepest
 abbrev pub RunOn : Context → Check → List ℕ → List Item → ℕ → Outcome → Type 0
-RunOn context check program args limit outcome = Run context check program 0 (reverse args) [] (limit - total_cost args) outcome
+RunOn context check program args limit outcome =
+    Run context check program 0 (reverse args) [] (limit - total_cost args) outcome
 
 -- the verdict under a limit: that the arguments are not covered, or what the run's outcome says
-pub data HasVerdict (context : Context) (check : Check) (program : List ℕ) (args : List Item) (limit : ℕ) (verdict : Verdict) : Type 0 where
-  not_covered : limit < total_cost args → verdict ≡ Failed RunLimit 0 → HasVerdict context check program args limit verdict
-  covered : total_cost args ≤ limit → (outcome : Outcome) × RunOn context check program args limit outcome × (verdict ≡ verdict_of (length program) outcome) → HasVerdict context check program args limit verdict
+pub data HasVerdict (context : Context) (check : Check) (program : List ℕ) (args : List Item) (limit : ℕ)
+    (verdict : Verdict) : Type 0 where
+  not_covered :
+      limit < total_cost args → verdict ≡ Failed RunLimit 0 → HasVerdict context check program args limit verdict
+  covered :
+      total_cost args ≤ limit
+      → (outcome : Outcome)
+          × RunOn context check program args limit outcome
+          × (verdict ≡ verdict_of (length program) outcome)
+      → HasVerdict context check program args limit verdict

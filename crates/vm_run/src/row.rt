@@ -1,7 +1,8 @@
 // The lines of the code table.
 ghost use Rattle.std.specs.Prelude.{◌≡◌, ℕ, List, [], ◌∷◌, length};
 ghost use Rattle.vm_num.specs.Item.{Item};
-ghost use Rattle.vm_run.specs.Row.{TimeFits, row, does, truth_item, verify_row, drop_row, dup_row, equal_row, number_row, sum_item, difference_item, equality_item, less_item};
+ghost use Rattle.vm_run.specs.Row.{TimeFits, row, does, truth_item, verify_row, drop_row, dup_row, equal_row};
+ghost use Rattle.vm_run.specs.Row.{number_row, sum_item, difference_item, equality_item, less_item};
 ghost use Rattle.vm_run.specs.Gives.{Gives};
 ghost use Rattle.vm_run.specs.Operands.{HasBlock, HasOne, HasTwo, AreNumbers};
 ghost use Rattle.vm_code.specs.Seen.{seen};
@@ -74,7 +75,9 @@ pub fn row<C: SigCheck>(
     stack: &Stack,
 ) -> Result<Effect, StepFault>
     requires { TimeFits ctx.now }
-    ensures { (size : ℕ) (alt : List Item) → Gives result (row ctx.now (C.good_of _sigs.now) (seen i.now) size stack.now alt) }
+    ensures {
+        (size : ℕ) (alt : List Item) → Gives result (row ctx.now (C.good_of _sigs.now) (seen i.now) size stack.now alt)
+    }
 {
     match i.code {
         FALSE..=PUSHDATA4 => one_push(alloc, 0, i.pushed, 1),

@@ -22,9 +22,9 @@ pub enum Verdict {
     Failed { kind: Failure, at: u64 },
 }
 
-/// Runs a program on its arguments, the first of them deepest, in a context and under a run limit. The arguments are paid
-/// for first; where the limit does not cover them, the program fails with `RunLimit` at 0. `sigs` says which signatures
-/// are good; no instruction asks for one yet.
+/// Runs a program on its arguments, the first of them deepest, in a context and under a run limit. The arguments are
+/// paid for first; where the limit does not cover them, the program fails with `RunLimit` at 0. `sigs` says which
+/// signatures are good; no instruction asks for one yet.
 pub fn verify<C: SigCheck>(
     alloc: Global,
     ctx: &Context,
@@ -38,7 +38,12 @@ pub fn verify<C: SigCheck>(
     ensures verdict { IfOk result (HasVerdict ctx.now (C.good_of sigs.now) program.now args.now limit) }
 
     // No more instructions complete than the limit says.
-    ensures bounded { total_cost args.now ≤ limit → (outcome : Outcome) → RunOn ctx.now (C.good_of sigs.now) program.now args.now limit outcome → count_of outcome ≤ limit }
+    ensures bounded {
+        total_cost args.now ≤ limit
+        → (outcome : Outcome)
+        → RunOn ctx.now (C.good_of sigs.now) program.now args.now limit outcome
+        → count_of outcome ≤ limit
+    }
 {
     let cost = cost_of(args.as_slice());
     if limit < cost {
