@@ -1,4 +1,4 @@
--- There is a reply to `apply`, whatever the files hold.
+-- There is a reply to `apply`, whatever bytes the files hold.
 use Rattle.std.proofs.Common.{◌≡◌, ◌⊎◌, ℕ, zero, suc, ◌+◌, ◌<◌, ◌≤◌, Bool, true, false, List, [], ◌∷◌, length, get_or, Some, None, Result, Ok, Err, nat_le, inl, inr, refl, arith}
 use Rattle.std.proofs.lemmas.Bool.Decides.{nat_tests}
 use Rattle.std.proofs.lemmas.Grind.{common_steps}
@@ -7,26 +7,16 @@ use Rattle.vm_run.specs.Row.{Check}
 use Rattle.wire.specs.Spelling.{AreBytes}
 use Rattle.ledger_core.specs.Chain.{Chain}
 use Rattle.ledger_core.proofs.Chains.{not_empty}
+use Rattle.outside.specs.Bytes.{HoldsBytes}
 use Rattle.outside.specs.Files.{Content, Read}
 use Rattle.chain_top.specs.Frames.{FileFault, FileReadsAs, FileLaws}
-use Rattle.chain_top.specs.Loading.{Stop, Missing, Refusing, most_bytes, file_read, are_bytes, BytesOf, missing, no_file, long, read, BlocksOf, stopped, fault, blocks, NoChain, LedgerOf, ledger_stopped, no_chain, chain}
+use Rattle.chain_top.specs.Loading.{Stop, Missing, Refusing, most_bytes, file_read, BytesOf, missing, long, read, BlocksOf, stopped, fault, blocks, NoChain, LedgerOf, ledger_stopped, no_chain, chain}
 use Rattle.chain_top.specs.Reply.{Hash, Reply, stopped as stopped_reply, ApplyReply, no_ledger, no_offers, too_long, done}
 use Rattle.chain_top.specs.Word.{Word}
 use Rattle.chain_top.proofs.Replayed.{chain_or_not}
 use Rattle.chain_top.proofs.Offering.{some_applied}
 
 -- ---- files
-
-front_byte : (b : ℕ) (bs : List ℕ) → are_bytes (b ∷ bs) ≡ true → (b < 256) × (are_bytes bs ≡ true)
-front_byte b bs is = grind (arith, nat_tests, common_steps)
-
-all_bytes : (bs : List ℕ) → are_bytes bs ≡ true → AreBytes bs
-all_bytes [] is = λ i. omega arith
-all_bytes (b ∷ bs) is = λ i. by_place i (front_byte b bs is).0 (all_bytes bs (front_byte b bs is).1)
-  where
-    by_place : (i : ℕ) → b < 256 → AreBytes bs → get_or (b ∷ bs) i 0 < 256
-    by_place zero first others = first
-    by_place (suc i) first others = others i
 
 abbrev IsOk : {X : Type 0} → (Content → Result X Stop → Type 0) → Content → Type 0
 IsOk {X} model content = (r : Result X Stop) × model content r
@@ -39,25 +29,31 @@ some_bytes place (Some bytes) = by_length (nat_le (length bytes) most_bytes) ref
     by_length false past = (let h : most_bytes < length bytes = grind (arith, nat_tests) in inl (_, long h))
     by_length true fits = (let h : length bytes ≤ most_bytes = grind (arith, nat_tests) in inr (bytes, read h))
 
+-- bytes that are read of a file that holds bytes
+read-bytes : (place : ℕ) (content : Content) (bytes : List ℕ) → BytesOf place content (Ok bytes) → HoldsBytes content → AreBytes bytes
+read-bytes place None bytes is are = elim is [ ]
+read-bytes place (Some whole) bytes (read fits) are = are
+
+-- a file whose blocks are read holds bytes
+pub blocks-bytes : (place : ℕ) (content : Content) (found : List Block × ℕ) → BlocksOf place content (Ok found) → HoldsBytes content
+blocks-bytes place None found (blocks is are reads) = elim is [ ]
+blocks-bytes place (Some whole) found (blocks (read fits) are reads) = are
+
 module _ (laws : FileLaws) where
-  pub some_blocks : (place : ℕ) (content : Content) → (r : Result (List Block × ℕ) Stop) × BlocksOf place content r
-  some_blocks place content = by_bytes (some_bytes place content)
+  pub some_blocks : (place : ℕ) (content : Content) → HoldsBytes content → (r : Result (List Block × ℕ) Stop) × BlocksOf place content r
+  some_blocks place content are = by_bytes (some_bytes place content)
     where
       by_reading : (bytes : List ℕ) → BytesOf place content (Ok bytes) → AreBytes bytes → (reading : Result (List Block) FileFault) × FileReadsAs bytes reading → (r : Result (List Block × ℕ) Stop) × BlocksOf place content r
-      by_reading bytes is are (Ok found, reads) = (Ok (found, length bytes), blocks is are reads)
-      by_reading bytes is are (Err f, first) = (Err _, fault is are first)
-
-      by_test : (bytes : List ℕ) → BytesOf place content (Ok bytes) → (are : Bool) → are_bytes bytes ≡ are → (r : Result (List Block × ℕ) Stop) × BlocksOf place content r
-      by_test bytes is false test = (Err Missing, no_file is test)
-      by_test bytes is true test = by_reading bytes is (all_bytes bytes test) (laws.reads bytes (all_bytes bytes test))
+      by_reading bytes is fit (Ok found, reads) = (Ok (found, length bytes), blocks is fit reads)
+      by_reading bytes is fit (Err f, first) = (Err _, fault is fit first)
 
       by_bytes : ((stop : Stop) × BytesOf place content (Err stop)) ⊎ ((bytes : List ℕ) × BytesOf place content (Ok bytes)) → (r : Result (List Block × ℕ) Stop) × BlocksOf place content r
       by_bytes (inl (stop, is)) = (Err stop, stopped is)
-      by_bytes (inr (bytes, is)) = by_test bytes is (are_bytes bytes) refl
+      by_bytes (inr (bytes, is)) = (let fit = read-bytes place content bytes is are in by_reading bytes is fit (laws.reads bytes fit))
 
   module _ (hash : Hash) (check : Check) where
-    some_ledger : (content : Content) → (r : Result (List Block × ℕ) Stop) × LedgerOf hash check content r
-    some_ledger content = by_blocks (some_blocks 1 content)
+    some_ledger : (content : Content) → HoldsBytes content → (r : Result (List Block × ℕ) Stop) × LedgerOf hash check content r
+    some_ledger content are = by_blocks (some_blocks 1 content are)
       where
         by_chain : (found : List Block) (len : ℕ) → BlocksOf 1 content (Ok (found, len)) → ((line : List ℕ) × NoChain hash check found line) ⊎ Chain hash check found → (r : Result (List Block × ℕ) Stop) × LedgerOf hash check content r
         by_chain found len is (inl (line, why)) = (Err (Refusing line), no_chain is why)
@@ -76,8 +72,8 @@ module _ (laws : FileLaws) where
 
     module _ (ledger offers : Word) (first second : Content) where
       -- where the ledger is read, both files are
-      pub with_ledger : (held : List Block × ℕ) → LedgerOf hash check first (Ok held) → (reply : Reply) × ApplyReply hash check ledger offers first second reply × (reply.reads ≡ file_read ledger ∷ file_read offers ∷ [])
-      with_ledger held is = by_offers (some_blocks 2 second)
+      pub with_ledger : HoldsBytes second → (held : List Block × ℕ) → LedgerOf hash check first (Ok held) → (reply : Reply) × ApplyReply hash check ledger offers first second reply × (reply.reads ≡ file_read ledger ∷ file_read offers ∷ [])
+      with_ledger are held is = by_offers (some_blocks 2 second are)
         where
           by_size : (offered : List Block × ℕ) → BlocksOf 2 second (Ok offered) → (fits : Bool) → nat_le (held.1 + offered.1) most_bytes ≡ fits → (reply : Reply) × ApplyReply hash check ledger offers first second reply × (reply.reads ≡ file_read ledger ∷ file_read offers ∷ [])
           by_size offered there false past = (let h : most_bytes < held.1 + offered.1 = grind (arith, nat_tests) in (_, too_long is there h refl, refl))
@@ -91,9 +87,9 @@ module _ (laws : FileLaws) where
           by_offers (Ok offered, there) = by_size offered there (nat_le (held.1 + offered.1) most_bytes) refl
 
       -- and the ledger is read in every case
-      pub apply_reply : (reply : Reply) × ApplyReply hash check ledger offers first second reply × ((rest : List Read) × (reply.reads ≡ file_read ledger ∷ rest))
-      apply_reply = by_ledger (some_ledger first)
+      pub apply_reply : HoldsBytes first → HoldsBytes second → (reply : Reply) × ApplyReply hash check ledger offers first second reply × ((rest : List Read) × (reply.reads ≡ file_read ledger ∷ rest))
+      apply_reply first_are second_are = by_ledger (some_ledger first first_are)
         where
           by_ledger : (r : Result (List Block × ℕ) Stop) × LedgerOf hash check first r → (reply : Reply) × ApplyReply hash check ledger offers first second reply × ((rest : List Read) × (reply.reads ≡ file_read ledger ∷ rest))
           by_ledger (Err stop, is) = (_, no_ledger is refl, ([], stopped_reads stop _))
-          by_ledger (Ok held, is) = (let all = with_ledger held is in (all.0, all.1, (file_read offers ∷ [], all.2)))
+          by_ledger (Ok held, is) = (let all = with_ledger second_are held is in (all.0, all.1, (file_read offers ∷ [], all.2)))

@@ -2,6 +2,7 @@
 use Rattle.std.proofs.Common.{◌≡◌, ℕ, ◌+◌, ◌<◌, List, [], ◌∷◌, ◌++◌, Option, Some, None, Ok, Err, inl, inr, refl, ◌∙◌, ap, String, Global, string_bytes}
 use Rattle.data_model.specs.declared.block.Block.{Block}
 use Rattle.vm_run.specs.Row.{Check}
+use Rattle.outside.specs.Bytes.{HoldsBytes}
 use Rattle.outside.specs.Files.{Content, Read}
 use Rattle.chain_top.specs.declared.load.Stopped.{Stopped}
 use Rattle.chain_top.specs.declared.load.Stopped.TheVariants.{Refused, ReadFault, NoMemory}
@@ -13,7 +14,7 @@ use Rattle.chain_top.specs.Loads.{Holds, LookBegun, Told, EndsBy, BothLoaded}
 use Rattle.chain_top.specs.Reply.{Hash, Reply, stopped, ApplyReply, no_ledger, no_offers, too_long}
 use Rattle.chain_top.specs.Word.{Word}
 use Rattle.chain_top.proofs.Done.{joined-none, joined-both}
-use Rattle.chain_top.proofs.ApplyReplies.{apply_reply, with_ledger}
+use Rattle.chain_top.proofs.ApplyReplies.{apply_reply, with_ledger, blocks-bytes}
 
 -- what a file holds, where the files tell
 content_of : Option (List ℕ → Content) → Word → Content
@@ -25,10 +26,19 @@ unfolding content_of
 content_of-holds None name = tt
 content_of-holds (Some contents) name = refl
 
-module _ (laws : FileLaws) (hash : Hash) (check : Check) (ledger offers : Word) (contents : Option (List ℕ → Content)) (old new : Option (List Read)) where
+-- what files tell that they hold is bytes
+abbrev pub TellBytes : Option (List ℕ → Content) → Type 0
+TellBytes contents = (of : List ℕ → Content) (name : List ℕ) → contents ≡ Some of → HoldsBytes (of name)
+
+content_of-bytes : (contents : Option (List ℕ → Content)) (name : Word) → TellBytes contents → HoldsBytes (content_of contents name)
+unfolding content_of
+content_of-bytes None name are = tt
+content_of-bytes (Some contents) name are = are contents name refl
+
+module _ (laws : FileLaws) (hash : Hash) (check : Check) (ledger offers : Word) (contents : Option (List ℕ → Content)) (are : TellBytes contents) (old new : Option (List Read)) where
   -- ---- at the ledger
 
-  early : (stop : Stopped) → new ≡ joined old (file_read ledger ∷ []) → ((first second : Content) → EndsBy (ApplyReply hash check ledger offers first second) (file_read ledger ∷ []) stop) → BothLoaded hash check ledger offers contents old new (Err stop)
+  early : (stop : Stopped) → new ≡ joined old (file_read ledger ∷ []) → EndsBy (ApplyReply hash check ledger offers (content_of contents ledger) (content_of contents offers)) (file_read ledger ∷ []) stop → BothLoaded hash check ledger offers contents old new (Err stop)
   early stop begun ends = record {
     first = content_of contents ledger;
     second = content_of contents offers;
@@ -36,11 +46,13 @@ module _ (laws : FileLaws) (hash : Hash) (check : Check) (ledger offers : Word) 
     holds_second = content_of-holds contents offers;
     reads = file_read ledger ∷ [];
     begun = begun;
-    told = ends _ _;
+    told = ends;
   }
 
-  begun_reply : (first second : Content) → (reply : Reply) × ApplyReply hash check ledger offers first second reply × (rest : List Read) × (reply.reads ≡ (file_read ledger ∷ []) ++ rest)
-  begun_reply first second = (let r = apply_reply laws hash check ledger offers first second in (r.0, r.1, r.2.0, r.2.1))
+  begun_reply : (reply : Reply) × ApplyReply hash check ledger offers (content_of contents ledger) (content_of contents offers) reply × (rest : List Read) × (reply.reads ≡ (file_read ledger ∷ []) ++ rest)
+  begun_reply =
+      let r = apply_reply laws hash check ledger offers _ _ (content_of-bytes contents ledger are) (content_of-bytes contents offers are) in
+      (r.0, r.1, r.2.0, r.2.1)
 
   pub ledger-ends : {T : Type 0} (view : T → List Block × ℕ) (stop : Stopped) → LookBegun {T = T} ledger (Err stop) old new → Told view (LedgerOf hash check) contents ledger (Err stop) → BothLoaded hash check ledger offers contents old new (Err stop)
   ledger-ends view (Refused line) begun told = record {
@@ -55,7 +67,7 @@ module _ (laws : FileLaws) (hash : Hash) (check : Check) (ledger offers : Word) 
   ledger-ends view ReadFault begun told = early ReadFault begun begun_reply
   ledger-ends view NoMemory (inr begun) told = early NoMemory begun begun_reply
   ledger-ends view NoMemory (inl same) told =
-      let reply = begun_reply (content_of contents ledger) (content_of contents offers) in
+      let reply = begun_reply in
       record {
         first = content_of contents ledger;
         second = content_of contents offers;
@@ -83,16 +95,16 @@ module _ (laws : FileLaws) (hash : Hash) (check : Check) (ledger offers : Word) 
       told = ends;
     }
 
-    both_reply : (second : Content) → (reply : Reply) × ApplyReply hash check ledger offers found.0 second reply × (rest : List Read) × (reply.reads ≡ (file_read ledger ∷ file_read offers ∷ []) ++ rest)
-    both_reply second = (let all = with_ledger laws hash check ledger offers found.0 second held found.2 in (all.0, all.1, [], all.2))
+    both_reply : (second : Content) → HoldsBytes second → (reply : Reply) × ApplyReply hash check ledger offers found.0 second reply × (rest : List Read) × (reply.reads ≡ (file_read ledger ∷ file_read offers ∷ []) ++ rest)
+    both_reply second fit = (let all = with_ledger laws hash check ledger offers found.0 second fit held found.2 in (all.0, all.1, [], all.2))
 
     pub offers-end : {T : Type 0} (view : T → List Block × ℕ) (stop : Stopped) → LookBegun {T = T} offers (Err stop) mid new → Told view (BlocksOf 2) contents offers (Err stop) → BothLoaded hash check ledger offers contents old new (Err stop)
     offers-end view (Refused line) begun told = late (Refused line) told.0 told.1 begun (no_offers found.2 told.2 refl)
-    offers-end view ReadFault begun told = late ReadFault (content_of contents offers) (content_of-holds contents offers) begun (both_reply (content_of contents offers))
-    offers-end view NoMemory (inr begun) told = late NoMemory (content_of contents offers) (content_of-holds contents offers) begun (both_reply (content_of contents offers))
+    offers-end view ReadFault begun told = late ReadFault (content_of contents offers) (content_of-holds contents offers) begun (both_reply _ (content_of-bytes contents offers are))
+    offers-end view NoMemory (inr begun) told = late NoMemory (content_of contents offers) (content_of-holds contents offers) begun (both_reply _ (content_of-bytes contents offers are))
     offers-end view NoMemory (inl same) told =
         let second = content_of contents offers in
-        let all = with_ledger laws hash check ledger offers found.0 second held found.2 in
+        let all = with_ledger laws hash check ledger offers found.0 second (content_of-bytes contents offers are) held found.2 in
         record {
           first = found.0;
           second = second;
@@ -108,4 +120,4 @@ module _ (laws : FileLaws) (hash : Hash) (check : Check) (ledger offers : Word) 
       both-too-long line past text = late (Refused line) there.0 there.1 begun (too_long found.2 there.2 past (ap (λ (t : List ℕ). stopped (Refusing t) (file_read ledger ∷ file_read offers ∷ [])) text))
 
       pub both-no-memory : BothLoaded hash check ledger offers contents old new (Err NoMemory)
-      both-no-memory = late NoMemory there.0 there.1 begun (both_reply there.0)
+      both-no-memory = late NoMemory there.0 there.1 begun (both_reply there.0 (blocks-bytes 2 there.0 offered there.2))

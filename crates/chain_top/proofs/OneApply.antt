@@ -16,7 +16,7 @@ use Rattle.ledger_core.proofs.Refusals as refusals
 use Rattle.outside.specs.Files.{Content, Read, Write}
 use Rattle.chain_top.specs.Frames.{FileFault, FileReadsAs, FileLaws}
 use Rattle.chain_top.specs.Line.{refused_file, refused_ledger, start_words, refusal_words, refused_block}
-use Rattle.chain_top.specs.Loading.{Stop, Missing, Refusing, most_bytes, file_read, are_bytes, BytesOf, missing, no_file, long, read, BlocksOf, stopped, fault, blocks, NoChain, empty, no_start, no_next, LedgerOf, ledger_stopped, no_chain, chain}
+use Rattle.chain_top.specs.Loading.{Stop, Missing, Refusing, most_bytes, file_read, BytesOf, missing, long, read, BlocksOf, stopped, fault, blocks, NoChain, empty, no_start, no_next, LedgerOf, ledger_stopped, no_chain, chain}
 use Rattle.chain_top.specs.Reply.{Hash, Line, Reply, stopped as stopped_reply, OfferTells, accepted, refused, Applied, none, next, ApplyReply, no_ledger, no_offers, too_long, done}
 use Rattle.chain_top.specs.Word.{Word}
 use Rattle.chain_top.proofs.ApplyReplies.{some_bytes}
@@ -41,16 +41,6 @@ one_bytes place (Some bytes) r s (long past) (read fits) = absurd (omega (arith,
 one_bytes place (Some bytes) r s (read fits) (long past) = absurd (omega (arith, past, fits))
 one_bytes place (Some bytes) r s (read fits) (read again) = refl
 
-bytes_are : (bs : List ℕ) → AreBytes bs → are_bytes bs ≡ true
-bytes_are [] are = refl
-bytes_are (b ∷ bs) are =
-    let first : b < 256 = are 0 in
-    let others : are_bytes bs ≡ true = bytes_are bs (λ i. are (suc i)) in
-    grind (arith, nat_tests, common_steps)
-
-not_both : (bs : List ℕ) → are_bytes bs ≡ false → AreBytes bs → ⊥
-not_both bs is are = false≢true (sym is ∙ bytes_are bs are)
-
 abbrev Found : Type 0
 Found = Result (List Block × ℕ) Stop
 
@@ -59,37 +49,30 @@ abbrev found_of : ℕ → List ℕ → Result (List Block) FileFault → Found
 found_of place bytes (Ok found) = Ok (found, length bytes)
 found_of place bytes (Err f) = Err (Refusing (refused_file place f.index f.at f.kind))
 
--- bytes that are read come to this: they are no bytes, or what they read as
+-- bytes that are read come to what they read as
 abbrev Comes : ℕ → List ℕ → Found → Type 0
 Comes place bytes r =
-    ((are_bytes bytes ≡ false) × (r ≡ Err Missing)) ⊎ (AreBytes bytes × (reading : Result (List Block) FileFault) × FileReadsAs bytes reading × (r ≡ found_of place bytes reading))
+    AreBytes bytes × (reading : Result (List Block) FileFault) × FileReadsAs bytes reading × (r ≡ found_of place bytes reading)
 
 module _ (place : ℕ) (content : Content) where
   -- where there are no bytes
   no_bytes : (stop : Stop) (r : Found) → BytesOf place content (Err stop) → BlocksOf place content r → r ≡ Err stop
   no_bytes stop r is (stopped there) = ap (λ (x : Stop). Err x) (same_err _ stop (one_bytes place content _ (Err stop) there is))
-  no_bytes stop r is (no_file there test) = absurd (err_not_ok _ stop (one_bytes place content (Err stop) _ is there))
   no_bytes stop r is (fault there are first) = absurd (err_not_ok _ stop (one_bytes place content (Err stop) _ is there))
   no_bytes stop r is (blocks there are reads) = absurd (err_not_ok _ stop (one_bytes place content (Err stop) _ is there))
 
   -- where there are some
   with_bytes : (bytes : List ℕ) (r : Found) → BytesOf place content (Ok bytes) → BlocksOf place content r → Comes place bytes r
   with_bytes bytes r is (stopped {stop = stop} there) = absurd (err_not_ok bytes stop (one_bytes place content (Err stop) (Ok bytes) there is))
-  with_bytes bytes r is (no_file {bytes = found} there test) =
-      let same : found ≡ bytes = same_ok found bytes (one_bytes place content (Ok found) (Ok bytes) there is) in
-      inl (subst (λ (x : List ℕ). are_bytes x ≡ false) same test, refl)
   with_bytes bytes r is (fault {bytes = found} {fault = f} there are first) =
       let same : found ≡ bytes = same_ok found bytes (one_bytes place content (Ok found) (Ok bytes) there is) in
-      inr (subst AreBytes same are, Err f, subst (λ (x : List ℕ). FileReadsAs x (Err f)) same first, refl)
+      (subst AreBytes same are, Err f, subst (λ (x : List ℕ). FileReadsAs x (Err f)) same first, refl)
   with_bytes bytes r is (blocks {bytes = found} {blocks = bs} there are reads) =
       let same : found ≡ bytes = same_ok found bytes (one_bytes place content (Ok found) (Ok bytes) there is) in
-      inr (subst AreBytes same are, Ok bs, subst (λ (x : List ℕ). FileReadsAs x (Ok bs)) same reads, ap (λ (x : List ℕ). Ok (bs, length x)) same)
+      (subst AreBytes same are, Ok bs, subst (λ (x : List ℕ). FileReadsAs x (Ok bs)) same reads, ap (λ (x : List ℕ). Ok (bs, length x)) same)
 
   one_coming : FileLaws → (bytes : List ℕ) (r s : Found) → Comes place bytes r → Comes place bytes s → r ≡ s
-  one_coming laws bytes r s (inl p) (inl q) = p.1 ∙ sym q.1
-  one_coming laws bytes r s (inl p) (inr q) = absurd (not_both bytes p.0 q.0)
-  one_coming laws bytes r s (inr p) (inl q) = absurd (not_both bytes q.0 p.0)
-  one_coming laws bytes r s (inr (are, x, reads, is)) (inr (again, y, others, same)) =
+  one_coming laws bytes r s (are, x, reads, is) (again, y, others, same) =
       is ∙ ap (found_of place bytes) (laws.one_reading bytes x y are reads others) ∙ sym same
 
   one_blocks : FileLaws → (r s : Found) → BlocksOf place content r → BlocksOf place content s → r ≡ s

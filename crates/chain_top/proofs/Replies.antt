@@ -10,7 +10,7 @@ use Rattle.chain_top.specs.Word.{Word}
 use Rattle.chain_top.specs.Frames.{FileLaws}
 use Rattle.chain_top.specs.Command.{Command, Vm, Init, Apply}
 use Rattle.chain_top.specs.Line.{verdict_line, usage_line}
-use Rattle.chain_top.specs.Reply.{Hash, Given, Reply, told, VmReply, misfit, ran, InitReply, made, CommandReply}
+use Rattle.chain_top.specs.Reply.{Hash, Given, Reply, told, VmReply, misfit, ran, InitReply, made, CommandReply, AreGivenBytes}
 use Rattle.chain_top.proofs.VmReplies.{vm_reply}
 use Rattle.chain_top.proofs.InitReplies.{init_reply}
 use Rattle.chain_top.proofs.ApplyReplies.{apply_reply}
@@ -44,8 +44,9 @@ one_reply laws hash check (Some (Vm limit program args)) given a b is same = one
 one_reply laws hash check (Some (Init ledger time program)) given a b is same = one_init hash ledger time program a b is same
 one_reply laws hash check (Some (Apply ledger offers)) given a b is same = one_apply hash check laws ledger offers (given 1) (given 2) a b is same
 
-pub some_reply : FileLaws → (hash : Hash) (check : Check) (command : Option Command) (given : Given) → (reply : Reply) × CommandReply hash check command given reply
-some_reply laws hash check None given = (told 1 usage_line, refl)
-some_reply laws hash check (Some (Vm limit program args)) given = vm_reply check limit program args
-some_reply laws hash check (Some (Init ledger time program)) given = init_reply hash ledger time program
-some_reply laws hash check (Some (Apply ledger offers)) given = (let r = apply_reply laws hash check ledger offers (given 1) (given 2) in (r.0, r.1))
+pub some_reply : FileLaws → (hash : Hash) (check : Check) (command : Option Command) (given : Given) → AreGivenBytes given → (reply : Reply) × CommandReply hash check command given reply
+some_reply laws hash check None given are = (told 1 usage_line, refl)
+some_reply laws hash check (Some (Vm limit program args)) given are = vm_reply check limit program args
+some_reply laws hash check (Some (Init ledger time program)) given are = init_reply hash ledger time program
+some_reply laws hash check (Some (Apply ledger offers)) given are =
+    (let r = apply_reply laws hash check ledger offers (given 1) (given 2) (are 1) (are 2) in (r.0, r.1))

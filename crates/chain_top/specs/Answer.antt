@@ -57,9 +57,9 @@ abbrev pub Shown : List Line → ℕ → List ℕ → Type 0
 Shown [] done printed = printed ≡ []
 Shown (line ∷ lines) done printed =
     (printed ≡ [])
-        ⊎ ((line.after ≤ done)
-            × (((n : ℕ) × (printed ≡ take n line.text))
-                ⊎ ((rest : List ℕ) × (printed ≡ line.text ++ rest) × Shown lines done rest)))
+    ⊎ ((line.after ≤ done)
+    × (((n : ℕ) × (printed ≡ take n line.text))
+    ⊎ ((rest : List ℕ) × (printed ≡ line.text ++ rest) × Shown lines done rest)))
 
 -- what is given by places is what the files hold under the words, where they tell
 abbrev pub Agrees : Option (List ℕ → Content) → List Word → Given → Type 0
@@ -115,8 +115,8 @@ pub record HasCauses (before after : World) (status : ℕ) : Type 0 where
       status ≢ 3
       → status ≢ 4
       → (after.read_faults ≡ before.read_faults)
-          × (after.write_faults ≡ before.write_faults)
-          × (after.sink_faults ≡ before.sink_faults)
+      × (after.write_faults ≡ before.write_faults)
+      × (after.sink_faults ≡ before.sink_faults)
 
 -- ---- one line
 

@@ -43,5 +43,5 @@ command_of (name ∷ words) =
     if bytes_eq name (codes "vm")
     then vm_words words
     else (if bytes_eq name (codes "init")
-        then init_words words
-        else (if bytes_eq name (codes "apply") then apply_words words else None))
+    then init_words words
+    else (if bytes_eq name (codes "apply") then apply_words words else None))

@@ -126,7 +126,7 @@ pub record FileLaws : Type 0 where
       → 0 < k
       → k < length (frame_spelling block)
       → FirstFileFault (bytes ++ take k (frame_spelling block))
-          (record { index = length blocks; at = length bytes; kind = Short })
+      (record { index = length blocks; at = length bytes; kind = Short })
 
 -- ---- the frame at the front of bytes, as a function of them
 

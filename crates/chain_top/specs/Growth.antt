@@ -32,7 +32,7 @@ offers_told hash before [] verdicts = []
 offers_told hash before (offer ∷ offers) [] = []
 offers_told hash before (offer ∷ offers) (None ∷ verdicts) =
     record { text = accepted_line offer.header.height (header_id hash offer.header); after = before + 1 }
-        ∷ offers_told hash (before + 1) offers verdicts
+    ∷ offers_told hash (before + 1) offers verdicts
 offers_told hash before (offer ∷ offers) (Some line ∷ verdicts) =
     record { text = refused_block line; after = before } ∷ offers_told hash before offers verdicts
 
@@ -59,7 +59,7 @@ pub record Grows (hash : Hash) (check : Check) (ledger : Word) (first second : C
 abbrev pub EndsGrown : Word → List Block → (List ℕ → Content) → (List ℕ → Content) → Type 0
 EndsGrown ledger added before after =
     (bytes_in (after ledger) ≡ bytes_in (before ledger) ++ file_spelling added)
-        × ((name : List ℕ) → bytes_eq name ledger ≡ false → after name ≡ before name)
+    × ((name : List ℕ) → bytes_eq name ledger ≡ false → after name ≡ before name)
 
 -- ---- a crash
 

@@ -53,7 +53,7 @@ abbrev pub refused_file_of : ℕ → ℕ → ℕ → List ℕ → List ℕ
 refused_file_of place index at kind =
     codes "refused file "
     ++ (decimal place
-        ++ (codes " " ++ (decimal index ++ (codes " " ++ (decimal at ++ (codes " " ++ (kind ++ newline)))))))
+    ++ (codes " " ++ (decimal index ++ (codes " " ++ (decimal at ++ (codes " " ++ (kind ++ newline)))))))
 
 abbrev pub refused_file : ℕ → ℕ → ℕ → DataKind → List ℕ
 refused_file place index at kind = refused_file_of place index at (kind_name kind)

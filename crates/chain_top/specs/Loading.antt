@@ -1,7 +1,5 @@
 -- What the files of blocks are that a command reads.
-use Rattle.std.specs.Prelude.{◌≡◌, ℕ, ◌<◌, ◌≤◌, Bool, false, List, [], ◌∷◌, ◌++◌, length, Some, None, Result, Ok, Err}
-use Rattle.std.specs.Prelude.{nat_lt}
-use Rattle.std.specs.List.{list_all}
+use Rattle.std.specs.Prelude.{◌≡◌, ℕ, ◌<◌, ◌≤◌, List, [], ◌∷◌, ◌++◌, length, Some, None, Result, Ok, Err}
 use Rattle.data_model.specs.declared.block.Block.{Block}
 use Rattle.data_model.specs.declared.fault.DataKind.TheVariants.{Count}
 use Rattle.vm_run.specs.Row.{Check}
@@ -30,9 +28,6 @@ most_bytes = 67108864
 abbrev pub file_read : Word → Read
 file_read name = record { name = name; most = most_bytes }
 
-abbrev pub are_bytes : List ℕ → Bool
-are_bytes numbers = list_all (λ n. nat_lt n 256) numbers
-
 -- the bytes of the file that the word at this place names
 pub data BytesOf (place : ℕ) : Content → Result (List ℕ) Stop → Type 0 where
   missing : BytesOf place None (Err Missing)
@@ -42,12 +37,6 @@ pub data BytesOf (place : ℕ) : Content → Result (List ℕ) Stop → Type 0 w
 -- the blocks of such a file, and its length
 pub data BlocksOf (place : ℕ) (content : Content) : Result (List Block × ℕ) Stop → Type 0 where
   stopped : {stop : Stop} → BytesOf place content (Err stop) → BlocksOf place content (Err stop)
-  -- what has a number that is no byte is no file
-  no_file :
-      {bytes : List ℕ}
-      → BytesOf place content (Ok bytes)
-      → are_bytes bytes ≡ false
-      → BlocksOf place content (Err Missing)
   -- it does not read as frames
   fault :
       {bytes : List ℕ} {fault : FileFault}

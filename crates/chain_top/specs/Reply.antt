@@ -1,5 +1,6 @@
 -- What a call of the program answers: the model.
 use Rattle.std.specs.Prelude.{◌≡◌, ℕ, ◌+◌, ◌<◌, ◌≤◌, List, [], ◌∷◌, ◌++◌, length, Option, Some, None, Ok, Err, true}
+use Rattle.outside.specs.Bytes.{HoldsBytes}
 use Rattle.outside.specs.Files.{Content, Read, Write, Append, Replace, write_of}
 use Rattle.vm_num.specs.Item.{Item}
 use Rattle.vm_run.specs.declared.verdict.Verdict.{Verdict}
@@ -41,6 +42,10 @@ told status text = record { status = status; lines = record { text = text; after
 -- what the file holds that a word names, by the word's place
 abbrev pub Given : Type 0
 Given = ℕ → Content
+
+-- each of these files holds bytes alone
+abbrev pub AreGivenBytes : Given → Type 0
+AreGivenBytes given = (place : ℕ) → HoldsBytes (given place)
 
 -- a line that tells the verdict on a program with no context, and its status
 abbrev pub TellsVerdict : Check → ℕ → Item → List Item → ℕ → List ℕ → Type 0
@@ -85,8 +90,8 @@ pub data InitReply (hash : Hash) (ledger : Word) (time : ℕ) (program : Word) (
       {code : Item}
       → Some code ≡ hex_of program
       → reply
-          ≡ set_and_told ledger (frame_spelling (initial_block hash time code))
-              (block_line 1 (header_id hash (initial_block hash time code).header))
+      ≡ set_and_told ledger (frame_spelling (initial_block hash time code))
+      (block_line 1 (header_id hash (initial_block hash time code).header))
       → InitReply hash ledger time program reply
 
 -- a reply that prints one line once its writes are done
@@ -111,8 +116,8 @@ pub data OfferTells (hash : Hash) (check : Check) (ledger : Word) (blocks : List
   accepted :
       ValidNext hash check blocks block
       → OfferTells hash check ledger blocks block (blocks ++ block ∷ [])
-          (accepted_line block.header.height (header_id hash block.header))
-          (write_of Append ledger (frame_spelling block) true ∷ [])
+      (accepted_line block.header.height (header_id hash block.header))
+      (write_of Append ledger (frame_spelling block) true ∷ [])
   refused :
       {line : BlockRefusal}
       → Refusal hash check blocks block (Some line)
@@ -124,11 +129,11 @@ pub data Applied (hash : Hash) (check : Check) (ledger : Word)
   none : {blocks : List Block} {before : ℕ} → Applied hash check ledger blocks [] before [] []
   next :
       {blocks after offers : List Block} {block : Block} {before : ℕ} {text : List ℕ} {lines : List Line}
-          {writes later : List Write}
+      {writes later : List Write}
       → OfferTells hash check ledger blocks block after text writes
       → Applied hash check ledger after offers (before + length writes) lines later
       → Applied hash check ledger blocks (block ∷ offers) before
-          (record { text = text; after = before + length writes } ∷ lines) (writes ++ later)
+      (record { text = text; after = before + length writes } ∷ lines) (writes ++ later)
 
 -- the replies to `apply`, by what the two files hold
 pub data ApplyReply (hash : Hash) (check : Check) (ledger offers : Word) (first second : Content) (reply : Reply)

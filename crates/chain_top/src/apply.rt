@@ -36,16 +36,14 @@ pub fn apply<F: Files, S: Sink, H: IdHash, C: SigCheck>(
     hash: &H,
     sigs: &C,
 ) -> u8
-    ensures answers {
-        (words : List Word)
+    ensures answers { (words : List Word)
         → get_or words 1 [] ≡ ledger.now
         → get_or words 2 [] ≡ offers.now
         → Answers
-            (λ given reply. ApplyReply (H.hash_of hash.now) (C.good_of sigs.now) ledger.now offers.now (given 1)
-                (given 2) reply)
-            words (world S.held S.faults F.contents F.reads F.writes F.read_faults F.write_faults out.old files.old)
-            (world S.held S.faults F.contents F.reads F.writes F.read_faults F.write_faults out.new files.new) result
-    }
+        (λ given reply. ApplyReply (H.hash_of hash.now) (C.good_of sigs.now) ledger.now offers.now (given 1)
+        (given 2) reply)
+        words (world S.held S.faults F.contents F.reads F.writes F.read_faults F.write_faults out.old files.old)
+        (world S.held S.faults F.contents F.reads F.writes F.read_faults F.write_faults out.new files.new) result }
     ensures causes { HasCauses
         (world S.held S.faults F.contents F.reads F.writes F.read_faults F.write_faults out.old files.old)
         (world S.held S.faults F.contents F.reads F.writes F.read_faults F.write_faults out.new files.new) result }
@@ -86,10 +84,8 @@ fn load_both<F: Files, H: IdHash, C: SigCheck>(
     hash: &H,
     sigs: &C,
 ) -> Result<(Ledger, Blocks), Stopped>
-    ensures loaded {
-        BothLoaded (H.hash_of hash.now) (C.good_of sigs.now) ledger.now offers.now (F.contents files.old)
-        (F.reads files.old) (F.reads files.new) result
-    }
+    ensures loaded { BothLoaded (H.hash_of hash.now) (C.good_of sigs.now) ledger.now offers.now (F.contents files.old)
+        (F.reads files.old) (F.reads files.new) result }
     ensures stands { IfOk result (λ x. StandsFor (H.hash_of hash.now) (C.good_of sigs.now) x.0) }
     ensures framed { IfOk result (λ x. AreFramed x.1) }
     ensures few { IfOk result (λ x. length x.0.blocks + length x.1 < 2 ^ 40) }
@@ -132,11 +128,10 @@ fn offer_all<F: Files, S: Sink, H: IdHash, C: SigCheck>(
     requires stands { StandsFor (H.hash_of hash.now) (C.good_of sigs.now) ledger.old }
     requires framed { AreFramed blocks.now }
     requires few { length ledger.old.blocks + length blocks.now < 2 ^ 40 }
-    ensures follows {
-        Followed (OffersReply (H.hash_of hash.now) (C.good_of sigs.now) name.now ledger.old.blocks blocks.now)
+    ensures follows { Followed
+        (OffersReply (H.hash_of hash.now) (C.good_of sigs.now) name.now ledger.old.blocks blocks.now)
         (world S.held S.faults F.contents F.reads F.writes F.read_faults F.write_faults out.old files.old)
-        (world S.held S.faults F.contents F.reads F.writes F.read_faults F.write_faults out.new files.new) result
-    }
+        (world S.held S.faults F.contents F.reads F.writes F.read_faults F.write_faults out.new files.new) result }
     ensures causes { HasCauses
         (world S.held S.faults F.contents F.reads F.writes F.read_faults F.write_faults out.old files.old)
         (world S.held S.faults F.contents F.reads F.writes F.read_faults F.write_faults out.new files.new) result }
@@ -164,13 +159,11 @@ fn offer_one<F: Files, S: Sink, H: IdHash, C: SigCheck>(
     requires stands { StandsFor (H.hash_of hash.now) (C.good_of sigs.now) ledger.old }
     requires framed { IsFramed block.now }
     requires few { length ledger.old.blocks < 2 ^ 40 }
-    ensures follows {
-        Followed
+    ensures follows { Followed
         (OfferReply (H.hash_of hash.now) (C.good_of sigs.now) name.now ledger.old.blocks block.now ledger.new.blocks
-            result)
+        result)
         (world S.held S.faults F.contents F.reads F.writes F.read_faults F.write_faults out.old files.old)
-        (world S.held S.faults F.contents F.reads F.writes F.read_faults F.write_faults out.new files.new) result
-    }
+        (world S.held S.faults F.contents F.reads F.writes F.read_faults F.write_faults out.new files.new) result }
     ensures causes { HasCauses
         (world S.held S.faults F.contents F.reads F.writes F.read_faults F.write_faults out.old files.old)
         (world S.held S.faults F.contents F.reads F.writes F.read_faults F.write_faults out.new files.new) result }
@@ -201,14 +194,12 @@ fn append<F: Files, S: Sink>(
     out: &mut S,
 ) -> u8
     requires { IsFramed block.now }
-    ensures follows {
-        Followed
+    ensures follows { Followed
         (λ reply. reply
-            ≡ one_line 0 (accepted_line added.now.height added.now.id) []
-                (write_of Append name.now (frame_spelling block.now) true ∷ []))
+        ≡ one_line 0 (accepted_line added.now.height added.now.id) []
+        (write_of Append name.now (frame_spelling block.now) true ∷ []))
         (world S.held S.faults F.contents F.reads F.writes F.read_faults F.write_faults out.old files.old)
-        (world S.held S.faults F.contents F.reads F.writes F.read_faults F.write_faults out.new files.new) result
-    }
+        (world S.held S.faults F.contents F.reads F.writes F.read_faults F.write_faults out.new files.new) result }
     ensures causes { HasCauses
         (world S.held S.faults F.contents F.reads F.writes F.read_faults F.write_faults out.old files.old)
         (world S.held S.faults F.contents F.reads F.writes F.read_faults F.write_faults out.new files.new) result }
@@ -243,6 +234,3 @@ fn append_frame<F: Files, S: Sink>(
         Err(FileFault::NoMemory) => NO_MEMORY,
     }
 }
-
-#[cfg(test)]
-mod tests;

@@ -48,9 +48,10 @@ pub fn read_frames(alloc: Global, bytes: &[u8]) -> Result<Blocks, FramesFault>
     ensures found { IfOk result (λ blocks. AreFramed blocks × (bytes.now ≡ file_spelling blocks)) }
 
     // What is spelled so is read, unless memory runs out.
-    ensures only {
-        (blocks : List Block) → AreFramed blocks → bytes.now ≡ file_spelling blocks → FileGives result (Ok blocks)
-    }
+    ensures only { (blocks : List Block)
+        → AreFramed blocks
+        → bytes.now ≡ file_spelling blocks
+        → FileGives result (Ok blocks) }
 
     // What is told is the first fault, and the first fault is told, unless memory runs out.
     ensures fault { (f : FileFault) → result ≡ Err (FramesFault.At f.index f.at f.kind) → FirstFileFault bytes.now f }
@@ -94,12 +95,10 @@ pub fn next_frame(alloc: Global, bytes: &[u8]) -> Result<(Block, u64), DataFault
     ensures found { IfOk result (λ x. IsFramed x.0 × (bytes.now ≡ frame_spelling x.0 ++ drop x.1 bytes.now)) }
 
     // What is spelled so is read, whatever follows it, unless memory runs out.
-    ensures only {
-        (block : Block) (rest : List ℕ)
+    ensures only { (block : Block) (rest : List ℕ)
         → IsFramed block
         → bytes.now ≡ frame_spelling block ++ rest
-        → FrameGives bytes.now result (Ok (block, rest))
-    }
+        → FrameGives bytes.now result (Ok (block, rest)) }
 
     // What is told is the first fault, and the first fault is told, unless memory runs out.
     ensures fault { (f : Fault) → result ≡ Err (DataFault.At f.at f.kind) → FrameFault bytes.now f.at f.kind }
@@ -159,6 +158,3 @@ pub fn kind_name(kind: DataKind) -> &'static str
         DataKind::Count => "Count",
     }
 }
-
-#[cfg(test)]
-mod tests;

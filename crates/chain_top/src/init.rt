@@ -37,12 +37,10 @@ pub fn init<F: Files, S: Sink, H: IdHash>(
     hash: &H,
 ) -> u8
     requires { time < 2 ^ 63 }
-    ensures answers {
-        (words : List Word)
+    ensures answers { (words : List Word)
         → Answers (λ given reply. InitReply (H.hash_of hash.now) ledger.now time program.now reply) words
-            (world S.held S.faults F.contents F.reads F.writes F.read_faults F.write_faults out.old files.old)
-            (world S.held S.faults F.contents F.reads F.writes F.read_faults F.write_faults out.new files.new) result
-    }
+        (world S.held S.faults F.contents F.reads F.writes F.read_faults F.write_faults out.old files.old)
+        (world S.held S.faults F.contents F.reads F.writes F.read_faults F.write_faults out.new files.new) result }
     ensures causes { HasCauses
         (world S.held S.faults F.contents F.reads F.writes F.read_faults F.write_faults out.old files.old)
         (world S.held S.faults F.contents F.reads F.writes F.read_faults F.write_faults out.new files.new) result }
@@ -63,12 +61,10 @@ pub fn init<F: Files, S: Sink, H: IdHash>(
 // Sets the ledger, and then prints the line.
 fn set<F: Files, S: Sink>(ledger: &str, made: &Prepared, files: &mut F, out: &mut S) -> u8
     requires { 0 < string_len made.now.line }
-    ensures answers {
-        (words : List Word)
+    ensures answers { (words : List Word)
         → Answers (λ given reply. reply ≡ set_and_told ledger.now made.now.frame (string_bytes made.now.line)) words
-            (world S.held S.faults F.contents F.reads F.writes F.read_faults F.write_faults out.old files.old)
-            (world S.held S.faults F.contents F.reads F.writes F.read_faults F.write_faults out.new files.new) result
-    }
+        (world S.held S.faults F.contents F.reads F.writes F.read_faults F.write_faults out.old files.old)
+        (world S.held S.faults F.contents F.reads F.writes F.read_faults F.write_faults out.new files.new) result }
     ensures causes { HasCauses
         (world S.held S.faults F.contents F.reads F.writes F.read_faults F.write_faults out.old files.old)
         (world S.held S.faults F.contents F.reads F.writes F.read_faults F.write_faults out.new files.new) result }
@@ -84,11 +80,9 @@ fn made<H: IdHash>(alloc: Global, hash: &H, time: u64, code: Bytes) -> Result<Pr
     requires time { time < 2 ^ 63 }
     requires code { length code ≤ 65536 }
     ensures frame { IfOk result (λ m. m.frame ≡ frame_spelling (initial_block (H.hash_of hash.now) time code)) }
-    ensures line {
-        IfOk result
+    ensures line { IfOk result
         (λ m. string_bytes m.line
-            ≡ block_line 1 (header_id (H.hash_of hash.now) (initial_block (H.hash_of hash.now) time code).header))
-    }
+        ≡ block_line 1 (header_id (H.hash_of hash.now) (initial_block (H.hash_of hash.now) time code).header)) }
     ensures some { IfOk result (λ m. 0 < string_len m.line) }
 {
     let block = initial_block(alloc, hash, time, code);

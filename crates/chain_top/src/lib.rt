@@ -17,8 +17,6 @@ mod load;
 mod refused;
 mod replay;
 mod say;
-#[cfg(test)]
-mod tests;
 mod vm;
 mod word;
 
@@ -44,12 +42,10 @@ pub fn chain_main<F: Files, S: Sink, H: IdHash, C: SigCheck>(
     sigs: &C,
 ) -> u8
     // What is printed, read and written is the model's reply, or a front of it where the status is 3, 4 or 5.
-    ensures answers {
-        Answers (IsReply (H.hash_of hash.now) (C.good_of sigs.now) (map string_bytes words.now))
+    ensures answers { Answers (IsReply (H.hash_of hash.now) (C.good_of sigs.now) (map string_bytes words.now))
         (map string_bytes words.now)
         (world S.held S.faults F.contents F.reads F.writes F.read_faults F.write_faults out.old files.old)
-        (world S.held S.faults F.contents F.reads F.writes F.read_faults F.write_faults out.new files.new) result
-    }
+        (world S.held S.faults F.contents F.reads F.writes F.read_faults F.write_faults out.new files.new) result }
 
     // When the status is 3 or 4, and that it is one of them where a call on the files or the sink failed.
     ensures causes { HasCauses
@@ -72,13 +68,11 @@ fn run<F: Files, S: Sink, H: IdHash, C: SigCheck>(
     sigs: &C,
 ) -> u8
     requires { HasLimit (Some command) }
-    ensures answers {
-        (words : List Word)
+    ensures answers { (words : List Word)
         → Names words command.entry
         → Answers (CommandReply (H.hash_of hash.now) (C.good_of sigs.now) (Some (seen command.entry))) words
-            (world S.held S.faults F.contents F.reads F.writes F.read_faults F.write_faults out.old files.old)
-            (world S.held S.faults F.contents F.reads F.writes F.read_faults F.write_faults out.new files.new) result
-    }
+        (world S.held S.faults F.contents F.reads F.writes F.read_faults F.write_faults out.old files.old)
+        (world S.held S.faults F.contents F.reads F.writes F.read_faults F.write_faults out.new files.new) result }
     ensures causes { HasCauses
         (world S.held S.faults F.contents F.reads F.writes F.read_faults F.write_faults out.old files.old)
         (world S.held S.faults F.contents F.reads F.writes F.read_faults F.write_faults out.new files.new) result }

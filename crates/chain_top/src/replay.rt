@@ -23,10 +23,8 @@ pub fn load_ledger<F: Files, H: IdHash, C: SigCheck>(
     hash: &H,
     sigs: &C,
 ) -> Result<(Ledger, u64), Stopped>
-    ensures told {
-        Told (λ x. (x.0.blocks, x.1)) (LedgerOf (H.hash_of hash.now) (C.good_of sigs.now)) (F.contents files.old)
-        name.now result
-    }
+    ensures told { Told (λ x. (x.0.blocks, x.1))
+        (LedgerOf (H.hash_of hash.now) (C.good_of sigs.now)) (F.contents files.old) name.now result }
     ensures stands { IfOk result (λ x. StandsFor (H.hash_of hash.now) (C.good_of sigs.now) x.0) }
     ensures few { IfOk result (λ x. length x.0.blocks ≤ x.1) }
     ensures small { IfOk result (λ x. x.1 ≤ most_bytes) }
@@ -103,9 +101,8 @@ fn grow<H: IdHash, C: SigCheck>(
     requires few { length ledger.old.blocks + length later.now ≤ most_bytes }
     ensures stands { StandsFor (H.hash_of hash.now) (C.good_of sigs.now) ledger.new }
     ensures all { OnOk result (ledger.new.blocks ≡ ledger.old.blocks ++ later.now) }
-    ensures refused {
-        IfErr result (NotChained (H.hash_of hash.now) (C.good_of sigs.now) (ledger.old.blocks ++ later.now))
-    }
+    ensures refused { IfErr result
+        (NotChained (H.hash_of hash.now) (C.good_of sigs.now) (ledger.old.blocks ++ later.now)) }
     ensures speaks { IfErr result Speaks }
 {
     for block in later {

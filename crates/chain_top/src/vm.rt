@@ -30,11 +30,9 @@ pub fn vm_told<C: SigCheck>(
     requires few { length args.now + 3 < 2 ^ 64 }
     ensures line { IfOk result (λ t. 0 < string_len t.line) }
     ensures status { IfOk result (λ t. t.status ≤ 2) }
-    ensures tells {
-        IfOk result
+    ensures tells { IfOk result
         (λ t. VmReply (C.good_of sigs.now) limit program.now (map string_bytes args.now)
-            (told t.status (string_bytes t.line)))
-    }
+        (told t.status (string_bytes t.line))) }
 {
     match hex_word(alloc, program)? {
         None => refused(alloc, 2),
@@ -56,9 +54,8 @@ fn ran<C: SigCheck>(
     requires { limit ≤ 100000 }
     ensures line { IfOk result (λ t. 0 < string_len t.line) }
     ensures status { IfOk result (λ t. t.status ≤ 2) }
-    ensures tells {
-        IfOk result (λ t. TellsVerdict (C.good_of sigs.now) limit program.now args.now t.status (string_bytes t.line))
-    }
+    ensures tells { IfOk result
+        (λ t. TellsVerdict (C.good_of sigs.now) limit program.now args.now t.status (string_bytes t.line)) }
 {
     match verify(alloc, &Context::Nothing, sigs, program, args, limit) {
         Ok(verdict) => Ok(Told {

@@ -81,15 +81,18 @@ header_at place = do
   tx_root ← id_at time.1
   unspent_root ← id_at tx_root.1
   next_program ← text_at unspent_root.1
-  Ok (record {
-    version = version.0;
-    height = height.0;
-    previous = previous.0;
-    time = time.0;
-    tx_root = tx_root.0;
-    unspent_root = unspent_root.0;
-    next_program = next_program.0;
-  }, next_program.1)
+  Ok (
+    record {
+      version = version.0;
+      height = height.0;
+      previous = previous.0;
+      time = time.0;
+      tx_root = tx_root.0;
+      unspent_root = unspent_root.0;
+      next_program = next_program.0;
+    },
+    next_program.1,
+  )
 
 unfoldable pub next_block_at : Place → Reading Block
 next_block_at place = do

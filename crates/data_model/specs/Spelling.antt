@@ -37,7 +37,7 @@ args_spelling args = varint (length args) ++ flat_map varstring args
 unfoldable pub header_spelling : Header → List ℕ
 header_spelling header =
     varint header.version ++ varint header.height ++ header.previous ++ varint header.time ++ header.tx_root
-        ++ header.unspent_root
+    ++ header.unspent_root
     ++ varstring header.next_program
 
 -- the header, the arguments, and how many transactions there are

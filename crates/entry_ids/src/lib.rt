@@ -6,6 +6,3 @@ mod entry;
 mod header;
 
 pub use header::block_id;
-
-#[cfg(test)]
-mod tests;

@@ -26,7 +26,7 @@ words_bytes h (suc n) i =
           (words_bytes h n i)
       | inr le ↦ rw
           (get_or-append_right (digest_bytes h n) (to_be_bytes w32 (slice_index h n)) (length (digest_bytes h n)) i 0
-              refl le)
+          refl le)
           (word_bytes (slice_index h n) (i - length (digest_bytes h n)))
     ]
 

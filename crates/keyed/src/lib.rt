@@ -7,6 +7,3 @@ mod signatures;
 
 pub use hashes::{IdHash, Sha256Id};
 pub use signatures::{NoSigs, SigCheck};
-
-#[cfg(test)]
-mod tests;

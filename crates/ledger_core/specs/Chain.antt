@@ -33,7 +33,7 @@ Accepted hash check blocks [] final (verdict ∷ verdicts) = ⊥
 Accepted hash check blocks (offer ∷ offers) final [] = ⊥
 Accepted hash check blocks (offer ∷ offers) final (verdict ∷ verdicts) =
     Refusal hash check blocks offer verdict
-        × Accepted hash check (after_offer blocks offer verdict) offers final verdicts
+    × Accepted hash check (after_offer blocks offer verdict) offers final verdicts
 
 -- ---- ledgers
 

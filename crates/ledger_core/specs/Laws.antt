@@ -70,7 +70,7 @@ pub record OfferLaws (hash : Hash) (check : Check) : Type 0 where
   -- one offer more
   pub more :
       (start offers final : List Block) (verdicts : List (Option BlockRefusal)) (offer : Block)
-          (verdict : Option BlockRefusal)
+      (verdict : Option BlockRefusal)
       → Accepted hash check start offers final verdicts
       → Refusal hash check final offer verdict
       → Accepted hash check start (offers ++ offer ∷ []) (after_offer final offer verdict) (verdicts ++ verdict ∷ [])

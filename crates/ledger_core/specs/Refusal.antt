@@ -47,12 +47,12 @@ run_limit = 10000
 abbrev pub context_after : Hash → Header → Header → Context
 context_after hash tip header =
     contexts.Block
-        (record {
-          block_id = header_id hash header;
-          program = tip.next_program;
-          next_program = header.next_program;
-          time = header.time;
-        })
+    (record {
+      block_id = header_id hash header;
+      program = tip.next_program;
+      next_program = header.next_program;
+      time = header.time;
+    })
 
 -- the verdict on the tip's next program
 abbrev pub HasVerdictAfter : Hash → Check → Header → Block → Verdict → Type 0

@@ -40,14 +40,12 @@ pub struct Tip<'a> {
 impl Ledger {
     /// The last block. It takes no memory.
     pub fn tip(&self) -> Tip<'_>
-        ensures block {
-            (tip : Block)
+        ensures block { (tip : Block)
             × (tip_of self.now.blocks ≡ Some tip)
             × (result.height ≡ tip.header.height)
             × (result.time ≡ tip.header.time)
             × (result.version ≡ tip.header.version)
-            × (result.next_program.now ≡ tip.header.next_program)
-        }
+            × (result.next_program.now ≡ tip.header.next_program) }
         ensures id { result.id ≡ self.now.tip_id }
     {
         let block = self.tip_block();

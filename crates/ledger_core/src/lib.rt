@@ -13,6 +13,3 @@ pub use laws::{accepted_offers, growing_chains, one_refusal, valid_blocks};
 pub use ledger::{Ledger, Tip};
 pub use offer::Accepted;
 pub use refusal::{BlockRefusal, OfferFault, StartFault};
-
-#[cfg(test)]
-mod tests;

@@ -40,13 +40,10 @@ impl Ledger {
         requires room { length self.old.blocks < 2 ^ 40 }
         ensures valid { OnOk result (ValidNext (H.hash_of hash.now) (C.good_of sigs.now) self.old.blocks block) }
         ensures added { OnOk result (self.new.blocks ≡ self.old.blocks ++ block ∷ []) }
-        ensures answer {
-            IfOk result
-            (λ added. (added.height ≡ block.header.height) × (added.id ≡ header_id (H.hash_of hash.now) block.header))
-        }
-        ensures refused {
-            IfErr result (λ fault. Refuses (H.hash_of hash.now) (C.good_of sigs.now) self.old.blocks block fault)
-        }
+        ensures answer { IfOk result
+            (λ added. (added.height ≡ block.header.height) × (added.id ≡ header_id (H.hash_of hash.now) block.header)) }
+        ensures refused { IfErr result
+            (λ fault. Refuses (H.hash_of hash.now) (C.good_of sigs.now) self.old.blocks block fault) }
         ensures unchanged { OnErr result (self.new ≡ self.old) }
         ensures stands { StandsFor (H.hash_of hash.now) (C.good_of sigs.now) self.new }
     {
@@ -70,9 +67,8 @@ impl Ledger {
         requires room { length self.now.blocks < 2 ^ 40 }
         ensures valid { OnOk result (ValidNext (H.hash_of hash.now) (C.good_of sigs.now) self.now.blocks block.now) }
         ensures id { IfOk result (λ id. id ≡ header_id (H.hash_of hash.now) block.now.header) }
-        ensures refused {
-            IfErr result (λ fault. Refuses (H.hash_of hash.now) (C.good_of sigs.now) self.now.blocks block.now fault)
-        }
+        ensures refused { IfErr result
+            (λ fault. Refuses (H.hash_of hash.now) (C.good_of sigs.now) self.now.blocks block.now fault) }
     {
         one_verdict();
         let tip = &self.tip_block().header;
@@ -145,9 +141,8 @@ fn verdict_after<H: IdHash, C: SigCheck>(
 ) -> Result<Verdict, NoMemory>
     requires id { id ≡ header_id (H.hash_of hash.now) block.now.header }
     requires time { block.now.header.time < 2 ^ 63 }
-    ensures {
-        IfOk result (λ verdict. HasVerdictAfter (H.hash_of hash.now) (C.good_of sigs.now) tip.now block.now verdict)
-    }
+    ensures { IfOk result
+        (λ verdict. HasVerdictAfter (H.hash_of hash.now) (C.good_of sigs.now) tip.now block.now verdict) }
 {
     let context = Context::Block(BlockContext {
         block_id: id,

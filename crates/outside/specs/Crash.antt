@@ -20,8 +20,8 @@ pub record State : Type 0 where
 abbrev pub StepAt : List ℕ → Write → State → State → Type 0
 StepAt name w old new =
     ReadsAt w name old.read new.read
-        × MatchBool (bytes_eq name w.name) (LeftAfter w.kind w.done w.bytes old.read new.read new.left)
-            (new.left ≡ old.left)
+    × MatchBool (bytes_eq name w.name) (LeftAfter w.kind w.done w.bytes old.read new.read new.left)
+    (new.left ≡ old.left)
 
 -- how several lead on, the first of them first
 abbrev pub Leads : List ℕ → List Write → State → State → Type 0
@@ -41,11 +41,11 @@ cut_short w = record w { done = false }
 abbrev pub IsMoment : List Write → List Write → Type 0
 IsMoment ws seen =
     ((rest : List Write) × (ws ≡ seen ++ rest))
-        ⊎ ((before : List Write)
-            × (w : Write)
-            × (rest : List Write)
-            × (ws ≡ before ++ w ∷ rest)
-            × (seen ≡ before ++ cut_short w ∷ []))
+    ⊎ ((before : List Write)
+    × (w : Write)
+    × (rest : List Write)
+    × (ws ≡ before ++ w ∷ rest)
+    × (seen ≡ before ++ cut_short w ∷ []))
 
 -- the contents that a crash at some moment of a run may leave
 abbrev pub CrashLeaves : (List ℕ → Content) → List Write → (List ℕ → Content) → Type 0

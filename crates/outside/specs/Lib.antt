@@ -1,4 +1,5 @@
 pub mod Begun
+pub mod Bytes
 pub mod Count
 pub mod Crash
 pub mod CrashLaws

@@ -63,9 +63,9 @@ abbrev pub state_code : Coded MemFilesState
 state_code =
     code_by (Contents × (ℕ × (List ℕ × (List Read × (List Write × (ℕ × ℕ))))))
     (coded× (map.code text_code text_code)
-        (coded× coded_ℕ
-            (coded× text_code
-                (coded× (coded_list read_code) (coded× (coded_list write_code) (coded× coded_ℕ coded_ℕ))))))
+    (coded× coded_ℕ
+    (coded× text_code
+    (coded× (coded_list read_code) (coded× (coded_list write_code) (coded× coded_ℕ coded_ℕ))))))
     (λ s. (s.files, (s.calls, (s.fails, (s.reads, (s.writes, (s.read_faults, s.write_faults)))))))
     (λ p. record {
       files = p.0;

@@ -3,6 +3,7 @@ ghost use Rattle.std.specs.Prelude.{◌≡◌, ◌<◌, ◌+◌, ◌^◌, take, 
 ghost use Rattle.std.specs.FinMap as finite;
 ghost use Rattle.std.specs.Option.{option_copied};
 ghost use Rattle.outside.specs.Begun.{contents_of, write_kind};
+ghost use Rattle.outside.specs.Bytes.{AreBytes};
 ghost use Rattle.outside.specs.MemCalls.{content_after};
 
 use crate::NoMemory;
@@ -55,7 +56,8 @@ pub fn written(
 /// The first `most + 1` bytes, or all where they are fewer.
 pub fn front(alloc: Global, whole: &[u8], most: u64) -> Result<Vec<u8>, NoMemory>
     requires { most < 2 ^ 63 }
-    ensures { IfOk result (λ v. v.items ≡ take (most + 1) whole.now) }
+    ensures taken { IfOk result (λ v. v.items ≡ take (most + 1) whole.now) }
+    ensures bytes { IfOk result (λ v. AreBytes v.items) }
 {
     let end = whole.len().min(most as usize + 1);
     Ok(whole[..end].to_vec(alloc)?)

@@ -1,4 +1,5 @@
-ghost use Rattle.std.specs.Prelude.{◌≡◌, ◌<◌, ◌≤◌, ◌+◌, ◌^◌, ℕ, List, Option, length, IfOk};
+ghost use Rattle.std.specs.Prelude.{◌≡◌, ◌<◌, ◌≤◌, ◌+◌, ◌^◌, ℕ, List, Option, Some, length, IfOk};
+ghost use Rattle.outside.specs.Bytes.{HoldsBytes};
 ghost use Rattle.outside.specs.Fault.{Counts};
 ghost use Rattle.outside.specs.Files.{Content, Read, Write, Append, Replace, ReadGives, ReadBegun, Wrote, WriteBegun};
 
@@ -49,4 +50,7 @@ pub trait Files {
         ensures reads { reads self.new ≡ reads self.old }
         ensures count { Counts (write_faults self.old) (write_faults self.new) result }
         ensures read_count { read_faults self.new ≡ read_faults self.old };
+
+    /// What is told of a file is a list of bytes.
+    ghost contents_are_bytes: { (files : Self) (of : List ℕ → Content) (name : List ℕ) → contents files ≡ Some of → HoldsBytes (of name) };
 }

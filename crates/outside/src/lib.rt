@@ -30,6 +30,3 @@ pub use memory::NoMemory;
 pub use sink::Sink;
 pub use std_files::StdFiles;
 pub use std_sink::StdSink;
-
-#[cfg(test)]
-mod tests;

@@ -7,6 +7,7 @@ ghost use Rattle.outside.specs.Files.{Append, Replace, Wrote};
 ghost use Rattle.outside.specs.MemCalls.{with_call, with_file, with_read, with_failed_read, with_write};
 ghost use Rattle.outside.specs.MemCalls.{with_failed_write};
 ghost use Rattle.outside.specs.Begun.{write_kind};
+ghost use Rattle.outside.specs.Bytes.{held_as_bytes};
 
 use crate::begun::{BegunRead, BegunWrite, Kind};
 use crate::contents::{content, front, set_content, written};
@@ -113,9 +114,8 @@ impl MemFiles {
     fn fail_read(&mut self, name: &str, most: u64) -> Result<(), NoMemory>
         ensures ok { OnOk result (self.new ≡ with_failed_read name.now most self.old) }
         ensures err { OnErr result (self.new ≡ self.old) }
-        ensures rises {
-            OnOk result ((self.old.read_faults ≤ self.new.read_faults) × Rose self.old.read_faults self.new.read_faults)
-        }
+        ensures rises { OnOk result
+            ((self.old.read_faults ≤ self.new.read_faults) × Rose self.old.read_faults self.new.read_faults) }
     {
         self.reads.push(BegunRead::new(self.alloc, name, most)?)?;
         self.read_faults = self.read_faults.saturating_add(1);
@@ -126,10 +126,8 @@ impl MemFiles {
     fn fail_write(&mut self, kind: Kind, name: &str, bytes: &[u8]) -> Result<(), NoMemory>
         ensures ok { OnOk result (self.new ≡ with_failed_write (write_kind kind) name.now bytes.now self.old) }
         ensures err { OnErr result (self.new ≡ self.old) }
-        ensures rises {
-            OnOk result
-            ((self.old.write_faults ≤ self.new.write_faults) × Rose self.old.write_faults self.new.write_faults)
-        }
+        ensures rises { OnOk result
+            ((self.old.write_faults ≤ self.new.write_faults) × Rose self.old.write_faults self.new.write_faults) }
     {
         let begun = BegunWrite::new(self.alloc, kind, name, bytes, false)?;
         self.writes.push(begun)?;
@@ -157,15 +155,11 @@ impl MemFiles {
         ensures planned { IsErrOf result FileFault.Failed → Contains self.old.fails self.old.calls }
         ensures unplanned { OnOk result (¬ Contains self.old.fails self.old.calls) }
         ensures ok { OnOk result (self.new ≡ with_write (write_kind kind) name.now bytes.now (with_call self.old)) }
-        ensures failed {
-            IsErrOf result FileFault.Failed
-            → self.new ≡ with_failed_write (write_kind kind) name.now bytes.now (with_call self.old)
-        }
+        ensures failed { IsErrOf result FileFault.Failed
+            → self.new ≡ with_failed_write (write_kind kind) name.now bytes.now (with_call self.old) }
         ensures memory { IsErrOf result FileFault.NoMemory → self.new ≡ with_call self.old }
-        ensures contents {
-            Wrote (write_kind kind) name.now bytes.now result (Some (finite.get self.old.files))
-            (Some (finite.get self.new.files))
-        }
+        ensures contents { Wrote (write_kind kind) name.now bytes.now result (Some (held_as_bytes self.old.files))
+            (Some (held_as_bytes self.new.files)) }
         ensures count { Counts self.old.write_faults self.new.write_faults result }
     {
         if self.begin_call() {
@@ -180,9 +174,8 @@ impl MemFiles {
     fn do_read(&mut self, alloc: Global, name: &str, most: u64) -> Result<Vec<u8>, FileFault>
         requires { most < 2 ^ 63 }
         ensures missing { IsErrOf result FileFault.Failed → IsNone (finite.get self.old.files name.now) }
-        ensures bytes {
-            IfOk result (λ v. IsSomeAnd (finite.get self.old.files name.now) (λ whole. v.items ≡ take (most + 1) whole))
-        }
+        ensures bytes { IfOk result
+            (λ v. IsSomeAnd (held_as_bytes self.old.files name.now) (λ whole. v.items ≡ take (most + 1) whole)) }
         ensures ok { OnOk result (self.new ≡ with_read name.now most self.old) }
         ensures failed { IsErrOf result FileFault.Failed → self.new ≡ with_failed_read name.now most self.old }
         ensures memory { IsErrOf result FileFault.NoMemory → self.new ≡ self.old }
@@ -205,8 +198,9 @@ impl MemFiles {
 impl Files for MemFiles {
     ghost use Rattle.std.specs.Prelude.{Some};
     ghost use Rattle.std.specs.FinMap as finite;
+    ghost use Rattle.outside.specs.Bytes.{held_as_bytes, held-bytes};
 
-    ghost contents = { λ s. Some (finite.get s.files) };
+    ghost contents = { λ s. Some (held_as_bytes s.files) };
 
     ghost reads = { λ s. Some s.reads };
 
@@ -216,18 +210,18 @@ impl Files for MemFiles {
 
     ghost write_faults = { λ s. s.write_faults };
 
+    ghost contents_are_bytes = { λ s of name told. held-bytes s.files of name told };
+
     fn read(&mut self, alloc: Global, name: &str, most: u64) -> Result<Vec<u8>, FileFault>
         requires { most < 2 ^ 63 }
         ensures planned { IsErrOf result FileFault.Failed
             → Contains self.old.fails self.old.calls ⊎ IsNone (finite.get self.old.files name.now) }
         ensures unplanned { OnOk result (¬ Contains self.old.fails self.old.calls) }
-        ensures bytes {
-            IfOk result (λ v. IsSomeAnd (finite.get self.old.files name.now) (λ whole. v.items ≡ take (most + 1) whole))
-        }
+        ensures bytes { IfOk result
+            (λ v. IsSomeAnd (held_as_bytes self.old.files name.now) (λ whole. v.items ≡ take (most + 1) whole)) }
         ensures ok { OnOk result (self.new ≡ with_read name.now most (with_call self.old)) }
-        ensures failed {
-            IsErrOf result FileFault.Failed → self.new ≡ with_failed_read name.now most (with_call self.old)
-        }
+        ensures failed { IsErrOf result FileFault.Failed
+            → self.new ≡ with_failed_read name.now most (with_call self.old) }
         ensures memory { IsErrOf result FileFault.NoMemory → self.new ≡ with_call self.old }
         ensures count { Counts self.old.read_faults self.new.read_faults result }
     {
@@ -242,14 +236,11 @@ impl Files for MemFiles {
         ensures planned { IsErrOf result FileFault.Failed → Contains self.old.fails self.old.calls }
         ensures unplanned { OnOk result (¬ Contains self.old.fails self.old.calls) }
         ensures ok { OnOk result (self.new ≡ with_write Append name.now bytes.now (with_call self.old)) }
-        ensures failed {
-            IsErrOf result FileFault.Failed
-            → self.new ≡ with_failed_write Append name.now bytes.now (with_call self.old)
-        }
+        ensures failed { IsErrOf result FileFault.Failed
+            → self.new ≡ with_failed_write Append name.now bytes.now (with_call self.old) }
         ensures memory { IsErrOf result FileFault.NoMemory → self.new ≡ with_call self.old }
-        ensures contents {
-            Wrote Append name.now bytes.now result (Some (finite.get self.old.files)) (Some (finite.get self.new.files))
-        }
+        ensures contents { Wrote Append name.now bytes.now result (Some (held_as_bytes self.old.files))
+            (Some (held_as_bytes self.new.files)) }
         ensures count { Counts self.old.write_faults self.new.write_faults result }
     {
         self.write(Kind::Appended, name, bytes)
@@ -259,15 +250,11 @@ impl Files for MemFiles {
         ensures planned { IsErrOf result FileFault.Failed → Contains self.old.fails self.old.calls }
         ensures unplanned { OnOk result (¬ Contains self.old.fails self.old.calls) }
         ensures ok { OnOk result (self.new ≡ with_write Replace name.now bytes.now (with_call self.old)) }
-        ensures failed {
-            IsErrOf result FileFault.Failed
-            → self.new ≡ with_failed_write Replace name.now bytes.now (with_call self.old)
-        }
+        ensures failed { IsErrOf result FileFault.Failed
+            → self.new ≡ with_failed_write Replace name.now bytes.now (with_call self.old) }
         ensures memory { IsErrOf result FileFault.NoMemory → self.new ≡ with_call self.old }
-        ensures contents {
-            Wrote Replace name.now bytes.now result (Some (finite.get self.old.files))
-            (Some (finite.get self.new.files))
-        }
+        ensures contents { Wrote Replace name.now bytes.now result (Some (held_as_bytes self.old.files))
+            (Some (held_as_bytes self.new.files)) }
         ensures count { Counts self.old.write_faults self.new.write_faults result }
     {
         self.write(Kind::Replaced, name, bytes)

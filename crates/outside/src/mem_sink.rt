@@ -21,9 +21,12 @@ impl Model for MemSink {
 
     ghost Value = { MemSinkState };
 
-    ghost view = {
-        λ s. record { content = s.content.items; calls = s.calls; fails = s.fails.items; faults = s.faults }
-    };
+    ghost view = { λ s. record {
+      content = s.content.items;
+      calls = s.calls;
+      fails = s.fails.items;
+      faults = s.faults;
+    } };
 }
 
 impl MemSink {

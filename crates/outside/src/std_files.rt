@@ -6,11 +6,13 @@ use crate::turns::{read_front, write_whole};
 use crate::{FileFault, Files};
 use std::alloc::Global;
 use std::fs::{File, OpenFile, OpenOptions};
+use std::io::Write;
 use std::{fs, rt};
 
 /// The files of a runtime, which for a program are those of the system. It tells nothing of their contents.
 ///
-/// Each error of the system is `Failed`. What an Ok has written was handed to the disk before (`fsync`).
+/// Each error of the system is `Failed`. What an Ok has written was handed to the disk before (`fsync`), the folder too
+/// where it made or renamed a file.
 #[derive(Drop)]
 pub struct StdFiles<'a, R> {
     rt: &'a R,
@@ -34,6 +36,7 @@ impl<'a, R: rt::Files> StdFiles<'a, R> {
 
 impl<R: rt::Files + AllocGlobal> Files for StdFiles<'_, R> {
     ghost use Rattle.std.specs.Prelude.{None};
+    ghost use Rattle.outside.specs.Bytes.{none_is_bytes};
     ghost use Rattle.outside.specs.StdFiles.{failed_reads, failed_writes};
 
     ghost contents = { λ _. None };
@@ -46,6 +49,8 @@ impl<R: rt::Files + AllocGlobal> Files for StdFiles<'_, R> {
 
     ghost write_faults = { failed_writes };
 
+    ghost contents_are_bytes = { λ s of name told. none_is_bytes of name told };
+
     fn read(&mut self, alloc: Global, name: &str, most: u64) -> Result<Vec<u8>, FileFault> {
         let answer = read_file(self.rt, alloc, name, most);
         count_fault(&mut self.read_faults, answer)
@@ -56,7 +61,8 @@ impl<R: rt::Files + AllocGlobal> Files for StdFiles<'_, R> {
         count_fault(&mut self.write_faults, answer)
     }
 
-    /// The bytes go to a file of the name followed by `.new`, which is then renamed. That file is the adapter's own.
+    /// The bytes go to a file of the name followed by `.new`, which is then renamed. That file is the adapter's own:
+    /// what stood there before is lost. Where the write or the renaming fails, it is removed.
     fn replace(&mut self, name: &str, bytes: &[u8]) -> Result<(), FileFault> {
         let answer = replace_file(self.rt, name, bytes);
         count_fault(&mut self.write_faults, answer)
@@ -76,13 +82,19 @@ fn read_file<R: rt::Files>(
     read_front(alloc, &mut file, most)
 }
 
+// Adds bytes to a file. One that is not there is made, and its folder then synced.
 fn append_file<R: rt::Files>(rt: &R, name: &str, bytes: &[u8]) -> Result<(), FileFault> {
-    let mut file = OpenOptions::new().append(true).create(true).open(rt, name)?;
-    write_whole(&mut file, bytes)?;
-    file.sync_all()?;
-    Ok(())
+    match OpenOptions::new().append(true).open(rt, name) {
+        Ok(mut file) => write_synced(&mut file, bytes),
+        Err(_) => {
+            let mut file = OpenOptions::new().append(true).create(true).open(rt, name)?;
+            write_synced(&mut file, bytes)?;
+            sync_folder(rt, name)
+        }
+    }
 }
 
+// Writes a draft, and renames it to the name. Where one of these fails, the draft is removed.
 fn replace_file<R: rt::Files + AllocGlobal>(
     rt: &R,
     name: &str,
@@ -91,8 +103,41 @@ fn replace_file<R: rt::Files + AllocGlobal>(
     let mut draft = String::from_str(rt.alloc(), name)?;
     draft.push_str(".new")?;
     let mut file = File::create(rt, draft.as_str())?;
-    write_whole(&mut file, bytes)?;
+    match fill_and_rename(rt, &mut file, draft.as_str(), name, bytes) {
+        Ok(()) => sync_folder(rt, name),
+        Err(fault) => {
+            let _ = fs::remove_file(rt, draft.as_str());
+            Err(fault)
+        }
+    }
+}
+
+fn fill_and_rename<R: rt::Files>(
+    rt: &R,
+    file: &mut R::File,
+    draft: &str,
+    name: &str,
+    bytes: &[u8],
+) -> Result<(), FileFault> {
+    write_synced(file, bytes)?;
+    fs::rename(rt, draft, name)?;
+    Ok(())
+}
+
+// Writes the bytes, and hands them to the disk.
+fn write_synced<W: Write + OpenFile>(file: &mut W, bytes: &[u8]) -> Result<(), FileFault> {
+    write_whole(file, bytes)?;
     file.sync_all()?;
-    fs::rename(rt, draft.as_str(), name)?;
+    Ok(())
+}
+
+// Hands to the disk which files a folder has: that of the name, which was made or renamed there.
+fn sync_folder<R: rt::Files>(rt: &R, name: &str) -> Result<(), FileFault> {
+    let folder = match name.rsplit_once('/') {
+        None => ".",
+        Some(("", _)) => "/",
+        Some((folder, _)) => folder,
+    };
+    File::open(rt, folder)?.sync_all()?;
     Ok(())
 }

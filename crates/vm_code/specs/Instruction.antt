@@ -26,7 +26,7 @@ abbrev pub is_plain : ℕ → Bool
 is_plain code =
     (nat_le 0x51 code && nat_le code 0x60)
     || list_any (λ c. c == code)
-        (0x00 ∷ 0x4f ∷ 0x69 ∷ 0x75 ∷ 0x76 ∷ 0x87 ∷ 0x93 ∷ 0x94 ∷ 0x9c ∷ 0x9f ∷ 0xaf ∷ 0xc4 ∷ 0xcd ∷ 0xce ∷ [])
+    (0x00 ∷ 0x4f ∷ 0x69 ∷ 0x75 ∷ 0x76 ∷ 0x87 ∷ 0x93 ∷ 0x94 ∷ 0x9c ∷ 0x9f ∷ 0xaf ∷ 0xc4 ∷ 0xcd ∷ 0xce ∷ [])
 
 -- the code is the number of data bytes
 abbrev pub is_data : ℕ → Bool
@@ -39,8 +39,8 @@ plain code = record { code = code; pushed = []; target = 0; len = 1 }
 abbrev pub data_at : ℕ → ℕ → ℕ → List ℕ → Result Decoded Misread
 data_at code field count behind =
     if nat_le (field + count) (length behind)
-        then Ok (record { code = code; pushed = take count (drop field behind); target = 0; len = 1 + field + count })
-        else Err Short
+    then Ok (record { code = code; pushed = take count (drop field behind); target = 0; len = 1 + field + count })
+    else Err Short
 
 -- the same where the field says the count, little-endian
 abbrev pub counted_at : ℕ → ℕ → List ℕ → Result Decoded Misread

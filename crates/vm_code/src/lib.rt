@@ -7,8 +7,6 @@ ghost use Rattle.vm_code.specs.Seen.{Reads};
 
 pub mod codes;
 mod data;
-#[cfg(test)]
-mod tests;
 
 use codes::{
     ADD, BLOCKHASH, BLOCKTIME, DATA_MAX, DATA_MIN, DROP, DUP, EQUAL, FALSE, LESSTHAN, NEGATIVE_ONE,

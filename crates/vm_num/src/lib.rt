@@ -7,8 +7,6 @@ mod memory;
 mod number;
 mod push;
 mod sums;
-#[cfg(test)]
-mod tests;
 
 pub use failure::Failure;
 pub use memory::NoMemory;

@@ -14,5 +14,5 @@ abbrev pub ReadsPush : Result Decoded Misread → Item → ℕ → Type 0
 ReadsPush (Ok i) item len =
     (i.len ≡ len)
     × ((context : Context) (check : Check) (size : ℕ) (items alt : List Item)
-        → row context check i size items alt ≡ push_row item)
+    → row context check i size items alt ≡ push_row item)
 ReadsPush (Err why) item len = ⊥

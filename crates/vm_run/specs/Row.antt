@@ -117,21 +117,21 @@ first_line (line ∷ lines) = if line.0 then line.1 else first_line lines
 -- on the items of the data stack and of the alt stack, the top first in each.
 abbrev pub table : Context → Check → Decoded → ℕ → List Item → List Item → List (Bool × Row)
 table context check i size items alt =
-    (nat_le i.code 0x4e, push_row i.pushed) -- FALSE and the codes of data
-    ∷ (i.code == 0x4f, push_row (num_bytes (negsuc 0))) -- 1NEGATE
-    ∷ (nat_le 0x51 i.code && nat_le i.code 0x60, push_row (num_bytes (pos (i.code - 0x50)))) -- 1 to 16
-    ∷ (i.code == 0x69, on_one verify_row items) -- VERIFY
-    ∷ (i.code == 0x75, on_one drop_row items) -- DROP
-    ∷ (i.code == 0x76, on_one dup_row items) -- DUP
-    ∷ (i.code == 0x87, on_two equal_row items) -- EQUAL
-    ∷ (i.code == 0x93, on_two (number_row sum_item) items) -- ADD
-    ∷ (i.code == 0x94, on_two (number_row difference_item) items) -- SUB
-    ∷ (i.code == 0x9c, on_two (number_row equality_item) items) -- NUMEQUAL
-    ∷ (i.code == 0x9f, on_two (number_row less_item) items) -- LESSTHAN
-    ∷ (i.code == 0xaf, in_block (λ b. push_row b.block_id) context) -- BLOCKHASH
-    ∷ (i.code == 0xc4, in_block (λ b. push_row b.program) context) -- PROGRAM
-    ∷ (i.code == 0xcd, in_block (λ b. push_row b.next_program) context) -- NEXTPROGRAM
-    ∷ (i.code == 0xce, in_block (λ b. push_row (num_bytes (pos b.time))) context) -- BLOCKTIME
+    (nat_le i.code 0x4e, push_row i.pushed)  -- FALSE and the codes of data
+    ∷ (i.code == 0x4f, push_row (num_bytes (negsuc 0)))  -- 1NEGATE
+    ∷ (nat_le 0x51 i.code && nat_le i.code 0x60, push_row (num_bytes (pos (i.code - 0x50))))  -- 1 to 16
+    ∷ (i.code == 0x69, on_one verify_row items)  -- VERIFY
+    ∷ (i.code == 0x75, on_one drop_row items)  -- DROP
+    ∷ (i.code == 0x76, on_one dup_row items)  -- DUP
+    ∷ (i.code == 0x87, on_two equal_row items)  -- EQUAL
+    ∷ (i.code == 0x93, on_two (number_row sum_item) items)  -- ADD
+    ∷ (i.code == 0x94, on_two (number_row difference_item) items)  -- SUB
+    ∷ (i.code == 0x9c, on_two (number_row equality_item) items)  -- NUMEQUAL
+    ∷ (i.code == 0x9f, on_two (number_row less_item) items)  -- LESSTHAN
+    ∷ (i.code == 0xaf, in_block (λ b. push_row b.block_id) context)  -- BLOCKHASH
+    ∷ (i.code == 0xc4, in_block (λ b. push_row b.program) context)  -- PROGRAM
+    ∷ (i.code == 0xcd, in_block (λ b. push_row b.next_program) context)  -- NEXTPROGRAM
+    ∷ (i.code == 0xce, in_block (λ b. push_row (num_bytes (pos b.time))) context)  -- BLOCKTIME
     ∷ []
 
 unfoldable pub row : Context → Check → Decoded → ℕ → List Item → List Item → Row

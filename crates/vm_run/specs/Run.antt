@@ -33,7 +33,7 @@ paid place items alt limit e =
     if nat_lt limit e.base then Stops failures.RunLimit
     else (if nat_lt (limit - e.base + total_cost e.popped) (total_cost e.pushed) then Stops failures.RunLimit
     else Goes place (e.pushed ++ drop (length e.popped) items) alt
-        (limit - e.base + total_cost e.popped - total_cost e.pushed) e.base)
+    (limit - e.base + total_cost e.popped - total_cost e.pushed) e.base)
 
 abbrev pub row_move : ℕ → List Item → List Item → ℕ → Row → Move
 row_move place items alt limit (Faults kind) = Stops kind
@@ -69,7 +69,7 @@ pub data Run (context : Context) (check : Check) : List ℕ → ℕ → List Ite
   -- an instruction completes, and the run goes on behind it
   goes_on :
       {program : List ℕ} {place : ℕ} {items alt : List Item} {limit : ℕ} {next : ℕ} {items' alt' : List Item}
-          {left base : ℕ} {outcome whole : Outcome}
+      {left base : ℕ} {outcome whole : Outcome}
       → place < length program
       → move context check program place items alt limit ≡ Goes next items' alt' left base
       → Run context check program next items' alt' left outcome

@@ -36,6 +36,6 @@ pub data HasVerdict (context : Context) (check : Check) (program : List ℕ) (ar
   covered :
       total_cost args ≤ limit
       → (outcome : Outcome)
-          × RunOn context check program args limit outcome
-          × (verdict ≡ verdict_of (length program) outcome)
+      × RunOn context check program args limit outcome
+      × (verdict ≡ verdict_of (length program) outcome)
       → HasVerdict context check program args limit verdict

@@ -11,13 +11,11 @@ ghost use Rattle.vm_run.specs.declared.verdict.Verdict.{Verdict};
 
 /// A run has no two outcomes.
 pub fn one_outcome()
-    ensures {
-        (context : Context) (check : Check) (program : List ℕ) (place : ℕ) (items alt : List Item) (limit : ℕ)
-            (a b : Outcome)
+    ensures { (context : Context) (check : Check) (program : List ℕ) (place : ℕ) (items alt : List Item) (limit : ℕ)
+        (a b : Outcome)
         → Run context check program place items alt limit a
         → Run context check program place items alt limit b
-        → a ≡ b
-    }
+        → a ≡ b }
 {}
 
 /// What `push_bytes` and `push_int` write is one instruction wherever it stands, and pushes the item or the number that
@@ -27,30 +25,24 @@ pub fn pushes_read_back()
         ReadsData (instruction_at (before ++ push_of item ++ after) (length before)) item (length (push_of item)) }
     ensures item { (item before after : List ℕ) → length item < 2 ^ 32 →
         ReadsPush (instruction_at (before ++ push_of item ++ after) (length before)) item (length (push_of item)) }
-    ensures number {
-        (n : ℤ) (before after : List ℕ)
+    ensures number { (n : ℤ) (before after : List ℕ)
         → ReadsPush (instruction_at (before ++ push_int_of n ++ after) (length before)) (num_bytes n)
-            (length (push_int_of n))
-    }
+        (length (push_int_of n)) }
 {}
 
 /// A run has an outcome, from every place of a program and from its end.
 pub fn some_outcome()
-    ensures {
-        (context : Context) (check : Check) (program : List ℕ) (place : ℕ) (items alt : List Item) (limit : ℕ)
+    ensures { (context : Context) (check : Check) (program : List ℕ) (place : ℕ) (items alt : List Item) (limit : ℕ)
         → place ≤ length program
-        → (outcome : Outcome) × Run context check program place items alt limit outcome
-    }
+        → (outcome : Outcome) × Run context check program place items alt limit outcome }
 {}
 
 /// A program has a verdict on its arguments under a limit, and no two.
 pub fn one_verdict()
     ensures some { (context : Context) (check : Check) (program : List ℕ) (args : List Item) (limit : ℕ) →
         (verdict : Verdict) × HasVerdict context check program args limit verdict }
-    ensures one {
-        (context : Context) (check : Check) (program : List ℕ) (args : List Item) (limit : ℕ) (a b : Verdict)
+    ensures one { (context : Context) (check : Check) (program : List ℕ) (args : List Item) (limit : ℕ) (a b : Verdict)
         → HasVerdict context check program args limit a
         → HasVerdict context check program args limit b
-        → a ≡ b
-    }
+        → a ≡ b }
 {}

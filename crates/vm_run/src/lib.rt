@@ -7,8 +7,6 @@ mod machine;
 mod memory;
 mod row;
 mod stack;
-#[cfg(test)]
-mod tests;
 mod verdict;
 
 pub use context::{BlockContext, Context};

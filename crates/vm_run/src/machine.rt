@@ -34,10 +34,8 @@ impl Machine {
         requires place { at < length program.now }
         requires small { self.old.left + total_cost self.old.stack < 2 ^ 63 }
         requires time { TimeFits ctx.now }
-        ensures moves {
-            Moves result (move ctx.now (C.good_of sigs.now) program.now at self.old.stack [] self.old.left)
-            self.new.stack self.new.left
-        }
+        ensures moves { Moves result (move ctx.now (C.good_of sigs.now) program.now at self.old.stack [] self.old.left)
+            self.new.stack self.new.left }
         ensures small { OnOk result (self.new.left + total_cost self.new.stack < 2 ^ 63) }
         ensures place { IfOk result (λ next. (at < next) × (next ≤ length program.now)) }
     {
@@ -60,13 +58,11 @@ impl Machine {
     ) -> Result<u64, StepFault>
         requires small { self.old.left + total_cost self.old.stack < 2 ^ 63 }
         requires time { TimeFits ctx.now }
-        ensures moves {
-            (size : ℕ)
+        ensures moves { (size : ℕ)
             → Moves result
-                (row_move place self.old.stack [] self.old.left
-                    (row ctx.now (C.good_of sigs.now) (seen i.now) size self.old.stack []))
-                self.new.stack self.new.left
-        }
+            (row_move place self.old.stack [] self.old.left
+            (row ctx.now (C.good_of sigs.now) (seen i.now) size self.old.stack []))
+            self.new.stack self.new.left }
         ensures small { OnOk result (self.new.left + total_cost self.new.stack < 2 ^ 63) }
         ensures place { IfOk result (λ next. next ≡ place) }
     {
@@ -79,15 +75,13 @@ impl Machine {
     // Pays for an effect and applies it: the base first, and then what is pushed out of what is left and popped.
     fn pay(&mut self, effect: Effect, place: u64) -> Result<u64, StepFault>
         requires { self.old.left + total_cost self.old.stack < 2 ^ 63 }
-        ensures moves {
-            (popped : List Item)
+        ensures moves { (popped : List Item)
             → popped ≡ take effect.pops self.old.stack
             → length popped ≡ effect.pops
             → Moves result
-                (paid place self.old.stack [] self.old.left
-                    (record { popped = popped; pushed = reverse effect.pushes; base = effect.base }))
-                self.new.stack self.new.left
-        }
+            (paid place self.old.stack [] self.old.left
+            (record { popped = popped; pushed = reverse effect.pushes; base = effect.base }))
+            self.new.stack self.new.left }
         ensures small { OnOk result (self.new.left + total_cost self.new.stack < 2 ^ 63) }
         ensures place { IfOk result (λ next. next ≡ place) }
     {

@@ -75,9 +75,8 @@ pub fn row<C: SigCheck>(
     stack: &Stack,
 ) -> Result<Effect, StepFault>
     requires { TimeFits ctx.now }
-    ensures {
-        (size : ℕ) (alt : List Item) → Gives result (row ctx.now (C.good_of _sigs.now) (seen i.now) size stack.now alt)
-    }
+    ensures { (size : ℕ) (alt : List Item)
+        → Gives result (row ctx.now (C.good_of _sigs.now) (seen i.now) size stack.now alt) }
 {
     match i.code {
         FALSE..=PUSHDATA4 => one_push(alloc, 0, i.pushed, 1),

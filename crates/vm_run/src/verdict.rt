@@ -38,12 +38,10 @@ pub fn verify<C: SigCheck>(
     ensures verdict { IfOk result (HasVerdict ctx.now (C.good_of sigs.now) program.now args.now limit) }
 
     // No more instructions complete than the limit says.
-    ensures bounded {
-        total_cost args.now ≤ limit
+    ensures bounded { total_cost args.now ≤ limit
         → (outcome : Outcome)
         → RunOn ctx.now (C.good_of sigs.now) program.now args.now limit outcome
-        → count_of outcome ≤ limit
-    }
+        → count_of outcome ≤ limit }
 {
     let cost = cost_of(args.as_slice());
     if limit < cost {

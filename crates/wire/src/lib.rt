@@ -18,6 +18,3 @@ pub use strings::{put_varstring, take_varstring};
 
 /// The name of an entry or an asset: 32 raw bytes.
 pub type Id = [u8; 32];
-
-#[cfg(test)]
-mod tests;

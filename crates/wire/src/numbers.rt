@@ -30,17 +30,17 @@ pub fn take_varint(b: &[u8]) -> Result<(u64, u64), WireFault>
     ensures within { IfOk result (λ x. x.1 ≤ length b.now) }
     ensures spelled { IfOk result (λ x. (x.0 < 2 ^ 63) × (take x.1 b.now ≡ varint x.0)) }
     // What is spelled so is read, whatever follows it.
-    ensures read {
-        (n : ℕ) (rest : List ℕ) → n < 2 ^ 63 → b.now ≡ varint n ++ rest → result ≡ Ok (n, length (varint n))
-    }
+    ensures read { (n : ℕ) (rest : List ℕ)
+        → n < 2 ^ 63
+        → b.now ≡ varint n ++ rest
+        → result ≡ Ok (n, length (varint n)) }
     // When each fault comes.
     ensures too_big { IsErrOf result WireFault.TooBig ↔ IsTooBig b.now }
     ensures not_shortest { IsErrOf result WireFault.NotShortest ↔ IsNotShortest b.now }
     ensures short { IsErrOf result WireFault.Short ↔ IsShort b.now }
     // The same as a function of the bytes.
-    ensures exact {
-        MatchResult result (λ x. varint_at b.now ≡ Ok (x.0, drop x.1 b.now)) (λ e. varint_at b.now ≡ Err e)
-    }
+    ensures exact { MatchResult result (λ x. varint_at b.now ≡ Ok (x.0, drop x.1 b.now))
+        (λ e. varint_at b.now ≡ Err e) }
 {
     take_groups(b, 8)
 }
@@ -51,9 +51,8 @@ fn take_groups(b: &[u8], more: u8) -> Result<(u64, u64), WireFault>
     requires { more ≤ 8 }
     ensures within { IfOk result (λ x. x.1 ≤ length b.now) }
     ensures below { IfOk result (λ x. x.0 < limit more) }
-    ensures exact {
-        MatchResult result (λ x. groups_at more b.now ≡ Ok (x.0, drop x.1 b.now)) (λ e. groups_at more b.now ≡ Err e)
-    }
+    ensures exact { MatchResult result (λ x. groups_at more b.now ≡ Ok (x.0, drop x.1 b.now))
+        (λ e. groups_at more b.now ≡ Err e) }
 {
     let Some((low, rest)) = b.split_first() else {
         return Err(WireFault::Short);

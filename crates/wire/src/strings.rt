@@ -27,21 +27,17 @@ pub fn take_varstring(b: &[u8], most: u64) -> Result<(&[u8], u64), WireFault>
     ensures within { IfOk result (λ x. (length x.0.now ≤ most) × (x.1 ≤ length b.now)) }
     ensures spelled { IfOk result (λ x. take x.1 b.now ≡ varstring x.0.now) }
     // What is spelled so is read, whatever follows it.
-    ensures read {
-        (s rest : List ℕ)
+    ensures read { (s rest : List ℕ)
         → length s ≤ most
         → b.now ≡ varstring s ++ rest
-        → IsOkAnd result (λ x. (x.0.now ≡ s) × (x.1 ≡ length (varstring s)))
-    }
+        → IsOkAnd result (λ x. (x.0.now ≡ s) × (x.1 ≡ length (varstring s))) }
     // When each fault comes: the length's own faults first.
     ensures too_big { IsErrOf result WireFault.TooBig ↔ IsTooBigString most b.now }
     ensures not_shortest { IsErrOf result WireFault.NotShortest ↔ IsNotShortest b.now }
     ensures short { IsErrOf result WireFault.Short ↔ IsShortString most b.now }
     // The same as a function of the bytes.
-    ensures exact {
-        MatchResult result (λ x. varstring_at most b.now ≡ Ok (x.0.now, drop x.1 b.now))
-        (λ e. varstring_at most b.now ≡ Err e)
-    }
+    ensures exact { MatchResult result (λ x. varstring_at most b.now ≡ Ok (x.0.now, drop x.1 b.now))
+        (λ e. varstring_at most b.now ≡ Err e) }
 {
     string_of(b, most)
 }
@@ -50,10 +46,8 @@ pub fn take_varstring(b: &[u8], most: u64) -> Result<(&[u8], u64), WireFault>
 #[tactic(auto, unfolding(crate::specs::Reading::varstring_at))]
 fn string_of(b: &[u8], most: u64) -> Result<(&[u8], u64), WireFault>
     ensures within { IfOk result (λ x. (length x.0.now ≤ most) × (x.1 ≤ length b.now)) }
-    ensures exact {
-        MatchResult result (λ x. varstring_at most b.now ≡ Ok (x.0.now, drop x.1 b.now))
-        (λ e. varstring_at most b.now ≡ Err e)
-    }
+    ensures exact { MatchResult result (λ x. varstring_at most b.now ≡ Ok (x.0.now, drop x.1 b.now))
+        (λ e. varstring_at most b.now ≡ Err e) }
 {
     let (len, taken) = take_varint(b)?;
     if len > most {

@@ -1,7 +1,9 @@
-use Rattle.std.proofs.Common.{◌≡◌}
+use Rattle.std.proofs.Common.{◌≡◌, Ok}
 use Rattle.std.specs.FinMap as finite
+use Rattle.std.proofs.Math.Facts.{Fits-lt-pow}
 use Rattle.outside.specs.Begun.{write_kind}
 use Rattle.outside.specs.MemCalls.{content_after}
+use Rattle.outside.proofs.ByteContents.{Wrote-as_bytes}
 use Rattle.outside.proofs.Effects.{AllRead-after}
 use Rattle.outside.proofs.mem_files.MemFiles.write.Goals as goal
 
@@ -15,4 +17,4 @@ returns-clause-contents c =
     let bytes = c.args.bytes.now in
     let same : mid ≡ old = cc in
     let is : new ≡ finite.insert mid name (content_after kind (finite.get mid name) bytes) = cc (c.in_ok-do_write.ensures.ok) in
-    AllRead-after kind old mid new name bytes same is
+    Wrote-as_bytes {T = Unit {0}} kind name bytes (Ok tt) old new (λ i. Fits-lt-pow (c.type_inv.bytes i)) (AllRead-after kind old mid new name bytes same is)

@@ -1,0 +1,24 @@
+//! Tests of library calls, a module a crate: what no contract says, each call once on its happy path, and the fakes'
+//! faults in turn. Whole calls of the program are played by the crate `calls`.
+#![tactic(auto)]
+
+#[cfg(test)]
+mod data_model_calls;
+#[cfg(test)]
+mod entry_ids_calls;
+#[cfg(test)]
+mod keyed_calls;
+#[cfg(test)]
+mod ledger_core_calls;
+#[cfg(test)]
+mod outside_calls;
+#[cfg(test)]
+mod rows;
+#[cfg(test)]
+mod vm_code_calls;
+#[cfg(test)]
+mod vm_num_calls;
+#[cfg(test)]
+mod vm_run_calls;
+#[cfg(test)]
+mod wire_calls;
