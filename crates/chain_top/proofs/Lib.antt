@@ -9,6 +9,7 @@ pub mod Follow
 pub mod FrameLemmas
 pub mod FrameLengths
 pub mod Growing
+pub mod Headline
 pub mod HexWords
 pub mod InitReplies
 pub mod Loaded

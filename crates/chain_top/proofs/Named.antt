@@ -9,7 +9,7 @@ use Rattle.chain_top.specs.Command.{Command, Vm, Init, Apply, command_of, vm_wor
 use Rattle.chain_top.specs.Seen.{seen, seen_command, Names}
 
 -- the words at the places of the names
-abbrev NamedIn : List Word → Option Command → Type 0
+abbrev pub NamedIn : List Word → Option Command → Type 0
 NamedIn words None = Unit {0}
 NamedIn words (Some (Vm limit program args)) = Unit {0}
 NamedIn words (Some (Init ledger time program)) = Unit {0}
@@ -45,7 +45,7 @@ by_test : (words : List Word) (test : Bool) (a b : Option Command) → NamedIn w
 by_test words true a b p q = p
 by_test words false a b p q = q
 
-named_in : (words : List Word) → NamedIn words (command_of words)
+pub named_in : (words : List Word) → NamedIn words (command_of words)
 named_in [] = tt
 named_in (name ∷ rest) =
     by_test (name ∷ rest) (bytes_eq name (codes "vm")) _ _ (in_vm (name ∷ rest) rest)

@@ -75,7 +75,7 @@ module _ (place : ℕ) (content : Content) where
   one_coming laws bytes r s (are, x, reads, is) (again, y, others, same) =
       is ∙ ap (found_of place bytes) (laws.one_reading bytes x y are reads others) ∙ sym same
 
-  one_blocks : FileLaws → (r s : Found) → BlocksOf place content r → BlocksOf place content s → r ≡ s
+  pub one_blocks : FileLaws → (r s : Found) → BlocksOf place content r → BlocksOf place content s → r ≡ s
   one_blocks laws r s p q = by_bytes (some_bytes place content)
     where
       by_bytes : ((stop : Stop) × BytesOf place content (Err stop)) ⊎ ((bytes : List ℕ) × BytesOf place content (Ok bytes)) → r ≡ s

@@ -2,6 +2,7 @@ pub mod Answer
 pub mod Command
 pub mod Frames
 pub mod Growth
+pub mod Headline
 pub mod Initial
 pub mod Following
 pub mod Line

@@ -1,0 +1,71 @@
+-- What a call comes to over files that tell what they hold, where no call on them or on the sink failed.
+use Rattle.std.specs.Prelude.{◌≡◌, ◌⊎◌, ℕ, List, [], ◌∷◌, Option, Some, Ok, IsSomeAnd}
+use Rattle.data_model.specs.declared.block.Block.{Block}
+use Rattle.vm_run.specs.Row.{Check}
+use Rattle.outside.specs.Files.{Content}
+use Rattle.chain_top.specs.Answer.{World}
+use Rattle.chain_top.specs.Command.{Command, Vm, Init, Apply, command_of}
+use Rattle.chain_top.specs.Growth.{Grows, EndsGrown}
+use Rattle.chain_top.specs.Line.{refused_hex, refused_size}
+use Rattle.chain_top.specs.Loading.{Refusing, file_read, BlocksOf, LedgerOf}
+use Rattle.chain_top.specs.Reply.{Hash, Reply, told, stopped, IsReply}
+use Rattle.chain_top.specs.Whole.{NoneFailed, IsWhole, held_by}
+use Rattle.chain_top.specs.Word.{Word}
+
+-- ---- the whole reply
+
+-- The call does all of the model's reply to the words, for what the files hold, or ends for want of memory.
+abbrev pub DoesReply : Hash → Check → List Word → World → World → ℕ → Type 0
+DoesReply hash check words before after status =
+    (contents : List ℕ → Content)
+    → before.contents ≡ Some contents
+    → NoneFailed before after
+    → (reply : Reply)
+    × IsReply hash check words (held_by contents words) reply
+    × (IsWhole reply before after status ⊎ (status ≡ 5))
+
+-- ---- growth
+
+-- The ledger's file has then the frames of exactly the accepted offers behind what it had, and reads as the longer chain.
+pub record Grown (hash : Hash) (check : Check) (ledger offers : Word) (contents : List ℕ → Content) (after : World)
+    : Type 0 where
+  pub reply : Reply
+  pub grows : Grows hash check ledger (contents ledger) (contents offers) reply
+  pub ends : IsSomeAnd after.contents (EndsGrown ledger grows.added contents)
+
+-- `apply` that ends with status 0 has grown the ledger.
+abbrev pub GrowsLedger : Hash → Check → List Word → World → World → ℕ → Type 0
+GrowsLedger hash check words before after status =
+    (contents : List ℕ → Content) (ledger offers : Word)
+    → command_of words ≡ Some (Apply ledger offers)
+    → before.contents ≡ Some contents
+    → NoneFailed before after
+    → status ≡ 0
+    → Grown hash check ledger offers contents after
+
+-- ---- completeness
+
+-- The files that a command reads are within their size and read by their formats, and its ledger is a chain.
+abbrev pub FilesRead : Hash → Check → Command → (List ℕ → Content) → Type 0
+FilesRead hash check (Vm limit program args) contents = Unit {0}
+FilesRead hash check (Init ledger time program) contents = Unit {0}
+FilesRead hash check (Apply ledger offers) contents =
+    ((held : List Block × ℕ) × LedgerOf hash check (contents ledger) (Ok held))
+    × ((offered : List Block × ℕ) × BlocksOf 2 (contents offers) (Ok offered))
+
+-- the refusals of a command's own list: a hex word that is none; both files of `apply` together too long
+abbrev pub OwnRefusal : Command → Reply → Type 0
+OwnRefusal (Vm limit program args) reply = (place : ℕ) × (reply ≡ told 2 (refused_hex place))
+OwnRefusal (Init ledger time program) reply = reply ≡ told 2 (refused_hex 3)
+OwnRefusal (Apply ledger offers) reply =
+    reply ≡ stopped (Refusing (refused_size 2)) (file_read ledger ∷ file_read offers ∷ [])
+
+-- Words in the grammar over files that are read give status 0, a refusal of the command's own list, or want of memory.
+abbrev pub IsComplete : Hash → Check → List Word → World → World → ℕ → Type 0
+IsComplete hash check words before after status =
+    (contents : List ℕ → Content) (command : Command)
+    → command_of words ≡ Some command
+    → before.contents ≡ Some contents
+    → NoneFailed before after
+    → FilesRead hash check command contents
+    → (status ≡ 0) ⊎ (((reply : Reply) × OwnRefusal command reply × IsWhole reply before after status) ⊎ (status ≡ 5))
