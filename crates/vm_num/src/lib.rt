@@ -5,6 +5,7 @@
 mod failure;
 mod memory;
 mod number;
+mod operations;
 mod push;
 mod sums;
 #[cfg(test)]
@@ -13,5 +14,6 @@ mod tests;
 pub use failure::Failure;
 pub use memory::NoMemory;
 pub use number::{Num, read_num, truth, write_num};
+pub use operations::{div, mul, rem, shl, shr};
 pub use push::{push_bytes, push_int};
 pub use sums::{add, sub};
