@@ -1,0 +1,24 @@
+-- Lines of the code table: what a code makes of its operands.
+use Rattle.std.specs.Prelude.{ℕ, ◌==◌, Bool, true, false, List, [], ◌∷◌, Option, Some, None, Result, Ok, Err, if◌then◌else◌, ℤ}
+use Rattle.vm_num.specs.Item.{Item, num_bytes}
+use Rattle.vm_num.specs.declared.failure.Failure.{Failure}
+use Rattle.vm_num.specs.declared.failure.Failure.TheVariants.{Range}
+
+-- the item that is pushed, or the failure
+abbrev pub Line : Type 0
+Line = Result Item Failure
+
+-- a number's item, where there is a 64-bit number
+abbrev pub number_item : Option ℤ → Line
+number_item None = Err Range
+number_item (Some n) = Ok (num_bytes n)
+
+-- the item of a comparison: 01, or empty
+abbrev pub truth_item : Bool → Item
+truth_item true = 1 ∷ []
+truth_item false = []
+
+-- a table's line at a code, or the other where it has none
+abbrev pub line_at : {L : Type 0} → L → List (ℕ × L) → ℕ → L
+line_at other [] code = other
+line_at other (entry ∷ entries) code = if entry.0 == code then entry.1 else line_at other entries code
