@@ -1,5 +1,5 @@
 -- The lines of the code table that take numbers, the deepest first.
-use Rattle.std.specs.Prelude.{◌≢◌, ◌≤◌, ℕ, ◌==◌, ◌&&◌, not, List, [], ◌∷◌, Option, Ok, Err, if◌then◌else◌, nat_le, ℤ, pos, neg_ℤ, int_lt, int_le, unsigned_abs}
+use Rattle.std.specs.Prelude.{◌≢◌, ◌≤◌, ℕ, ◌&&◌, not, [], ◌∷◌, Option, Ok, Err, if◌then◌else◌, nat_le, ℤ, pos, neg_ℤ, int_lt, int_le, unsigned_abs}
 use Rattle.std.specs.Ordering.{int_eq}
 use Rattle.std.specs.Int.{int_min, int_max}
 use Rattle.vm_num.specs.Item.{exact, num_bytes, sum_of, difference_of}
