@@ -1,5 +1,6 @@
 -- Products, quotients and shifts of numbers: exact, and then none where that is no number of 64 bits.
-use Rattle.std.specs.Prelude.{ℕ, ◌/◌, ◌^◌, Option, None, if◌then◌else◌, ℤ, pos, negsuc, ◌*ℤ◌, int_div, int_rem}
+use Rattle.std.specs.Prelude.{ℕ, ◌^◌, Option, None, if◌then◌else◌, ℤ, pos, negsuc, ◌*ℤ◌, int_div, int_rem}
+use Rattle.std.specs.Int.{int_div_euclid}
 use Rattle.std.specs.Ordering.{int_eq}
 use Rattle.vm_num.specs.Item.{exact}
 
@@ -19,10 +20,9 @@ abbrev pub left_shift_of : ℤ → ℤ → Option ℤ
 left_shift_of a (pos count) = exact (a *ℤ pos (2 ^ count))
 left_shift_of a (negsuc count) = None
 
--- z by n, rounded down
+-- z by n, rounded down: the quotient whose remainder is not negative
 abbrev pub floor_by : ℤ → ℕ → ℤ
-floor_by (pos z) n = pos (z / n)
-floor_by (negsuc z) n = negsuc (z / n)
+floor_by z n = int_div_euclid z (pos n)
 
 -- a by 2 to the count, rounded down; none at a negative count
 abbrev pub right_shift_of : ℤ → ℤ → Option ℤ

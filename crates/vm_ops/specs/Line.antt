@@ -1,5 +1,6 @@
 -- Lines of the code table: what a code makes of its operands.
 use Rattle.std.specs.Prelude.{ℕ, ◌==◌, Bool, true, false, List, [], ◌∷◌, Option, Some, None, Result, Ok, Err, if◌then◌else◌, ℤ}
+use Rattle.std.specs.List.{AllByRecursion}
 use Rattle.vm_num.specs.Item.{Item, num_bytes}
 use Rattle.vm_num.specs.declared.failure.Failure.{Failure}
 use Rattle.vm_num.specs.declared.failure.Failure.TheVariants.{Range}
@@ -22,3 +23,13 @@ truth_item false = []
 abbrev pub line_at : {L : Type 0} → L → List (ℕ × L) → ℕ → L
 line_at other [] code = other
 line_at other (entry ∷ entries) code = if entry.0 == code then entry.1 else line_at other entries code
+
+-- what holds of the other line and of all in the table holds of the line at every code
+pub line_at-all : {L : Type 0} (P : L → Type 0) (other : L) (entries : List (ℕ × L)) (code : ℕ)
+    → P other → AllByRecursion (λ entry. P entry.1) entries → P (line_at other entries code)
+line_at-all P other [] code rest all = rest
+line_at-all P other (entry ∷ entries) code rest all =
+    elim (entry.0 == code) as (λ (b : Bool). P (if b then entry.1 else line_at other entries code)) [
+      | true ↦ all.0
+      | false ↦ line_at-all P other entries code rest all.1
+    ]

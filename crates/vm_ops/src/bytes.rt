@@ -118,10 +118,10 @@ fn append_end(a: &[u8], size: i64, out: &mut Vec<u8>) -> Result<(), RowFault>
     ensures cause { IfErr result (IsCause (end_line a.now size)) }
     ensures err { OnErr result (out.new.items ≡ out.old.items) }
 {
-    append(end(a, size)?, out)
+    append(last(a, size)?, out)
 }
 
-fn end(a: &[u8], size: i64) -> Result<&[u8], Failure>
+fn last(a: &[u8], size: i64) -> Result<&[u8], Failure>
     ensures ok { IfOk result (λ s. end_line a.now size ≡ Ok s.now) }
     ensures err { IfErr result (λ kind. end_line a.now size ≡ Err kind) }
 {

@@ -5,6 +5,7 @@ mod bits;
 mod bytes;
 mod codes;
 mod fault;
+pub mod laws;
 mod numbers;
 
 pub use bytes::bytes_row;
