@@ -1,5 +1,5 @@
 -- The lines of the code table that take strings of bytes, the deeper first.
-use Rattle.std.specs.Prelude.{◌≡◌, ◌≢◌, ◌≤◌, ◌⊎◌, ℕ, ◌+◌, ◌-◌, ◌^◌, List, [], ◌∷◌, ◌++◌, length, map, take, drop, min, max, Ok, Err, if◌then◌else◌, nat_le, nat_lt, ℤ, pos, negsuc, bytes_eq, bit_and, bit_or, bit_xor}
+use Rattle.std.specs.Prelude.{refl, ◌≡◌, ◌≢◌, ◌≤◌, ◌⊎◌, ℕ, ◌+◌, ◌-◌, ◌^◌, List, [], ◌∷◌, ◌++◌, length, map, take, drop, min, max, Ok, Err, if◌then◌else◌, nat_le, nat_lt, ℤ, pos, negsuc, bytes_eq, bit_and, bit_or, bit_xor}
 use Rattle.std.specs.Int.{w8, bit_not}
 use Rattle.sha2.specs.Sha256.{sha256}
 use Rattle.vm_num.specs.Item.{Item}
@@ -68,3 +68,9 @@ AddsItem before after (Err kind) = ⊥
 abbrev pub IsCause : Line → RowFault → Type 0
 IsCause line (Row kind) = line ≡ Err kind
 IsCause line NoMemory = Unit {0}
+
+-- so there is such an item
+pub item_of_line : (before after : List ℕ) (line : Line) → AddsItem before after line
+    → (item : Item) × (line ≡ Ok item) × (after ≡ before ++ item)
+item_of_line before after (Ok item) adds = (item, refl, adds)
+item_of_line before after (Err kind) adds = absurd adds
