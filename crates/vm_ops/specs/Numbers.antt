@@ -47,9 +47,10 @@ arithmetic_line code a b = line_at (Err BadOpcode) (
     ∷ (0x99, by_count b (right_shift_of a b))
     ∷ []) code
 
--- NUMEQUAL, NUMNOTEQUAL, LESSTHAN, GREATERTHAN, LESSTHANOREQUAL, GREATERTHANOREQUAL, MIN, MAX
-unfoldable pub comparison_line : ℕ → ℤ → ℤ → Line
-comparison_line code a b = line_at (Err BadOpcode) (
+-- NUMEQUAL, NUMNOTEQUAL, LESSTHAN, GREATERTHAN, LESSTHANOREQUAL, GREATERTHANOREQUAL, MIN, MAX, and WITHIN, whose b is
+-- the least that is in and c the least past it
+unfoldable pub comparison_line : ℕ → ℤ → ℤ → ℤ → Line
+comparison_line code a b c = line_at (Err BadOpcode) (
     (0x9c, Ok (truth_item (int_eq a b)))
     ∷ (0x9e, Ok (truth_item (not (int_eq a b))))
     ∷ (0x9f, Ok (truth_item (int_lt a b)))
@@ -58,19 +59,15 @@ comparison_line code a b = line_at (Err BadOpcode) (
     ∷ (0xa2, Ok (truth_item (int_le b a)))
     ∷ (0xa3, Ok (num_bytes (int_min a b)))
     ∷ (0xa4, Ok (num_bytes (int_max a b)))
+    ∷ (0xa5, Ok (truth_item (int_le b a && int_lt a c)))
     ∷ []) code
-
--- WITHIN: the least in, the greatest out
-abbrev pub within_line : ℤ → ℤ → ℤ → Line
-within_line x least past = Ok (truth_item (int_le least x && int_lt x past))
 
 -- the line of a code, on as many of the numbers as it takes
 abbrev pub number_line : ℕ → ℤ → ℤ → ℤ → Line
 number_line code a b c =
     if nat_le code 0x92 then one_number_line code a
     else (if nat_le code 0x99 then arithmetic_line code a b
-    else (if nat_le code 0xa4 then comparison_line code a b
-    else within_line a b c))
+    else comparison_line code a b c)
 
 -- how many numbers it takes
 abbrev pub number_count : ℕ → ℕ

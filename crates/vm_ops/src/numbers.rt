@@ -1,7 +1,7 @@
 ghost use Rattle.std.specs.Prelude.{◌≡◌, ◌≢◌, ◌≤◌, pos, neg_ℤ, unsigned_abs, Ok};
 ghost use Rattle.vm_num.specs.Item.{exact};
 ghost use Rattle.vm_ops.specs.Line.{number_item, truth_item};
-ghost use Rattle.vm_ops.specs.Numbers.{IsNumberCode, by_divisor, by_count, one_number_line, arithmetic_line, comparison_line, within_line, number_line};
+ghost use Rattle.vm_ops.specs.Numbers.{IsNumberCode, by_divisor, by_count, one_number_line, arithmetic_line, comparison_line, number_line};
 
 use crate::codes::{
     ABS, ADD, ADD_ONE, DIV, DOUBLE, GREATERTHAN, GREATERTHANOREQUAL, HALVE, LESSTHAN,
@@ -22,8 +22,7 @@ pub fn number_row(code: u8, a: i64, b: i64, c: i64) -> Result<Num, Failure>
     match code {
         ..=NOT_ZERO => one_number(code, a),
         ADD..=RSHIFT => arithmetic(code, a, b),
-        NUMEQUAL..=MAX => comparison(code, a, b),
-        _ => Ok(truth_num(b <= a && a < c)),
+        _ => comparison(code, a, b, c),
     }
 }
 
@@ -63,11 +62,11 @@ fn arithmetic(code: u8, a: i64, b: i64) -> Result<Num, Failure>
 }
 
 #[tactic(auto, unfolding(crate::specs::Numbers::comparison_line))]
-fn comparison(code: u8, a: i64, b: i64) -> Result<Num, Failure>
+fn comparison(code: u8, a: i64, b: i64, c: i64) -> Result<Num, Failure>
     requires low { 0x9c ≤ code }
     requires verifies { code ≢ 0x9d }
-    requires high { code ≤ 0xa4 }
-    ensures { result ≡ comparison_line code a b }
+    requires high { code ≤ 0xa5 }
+    ensures { result ≡ comparison_line code a b c }
 {
     match code {
         NUMEQUAL => Ok(truth_num(a == b)),
@@ -77,7 +76,8 @@ fn comparison(code: u8, a: i64, b: i64) -> Result<Num, Failure>
         LESSTHANOREQUAL => Ok(truth_num(a <= b)),
         GREATERTHANOREQUAL => Ok(truth_num(a >= b)),
         MIN => Ok(write_num(a.min(b))),
-        _ => Ok(write_num(a.max(b))),
+        MAX => Ok(write_num(a.max(b))),
+        _ => Ok(truth_num(b <= a && a < c)),
     }
 }
 
