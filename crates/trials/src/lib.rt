@@ -4,4 +4,4 @@
 #[cfg(test)]
 mod vm_num_operations;
 #[cfg(test)]
-mod vm_ops;
+mod vm_ops_calls;
