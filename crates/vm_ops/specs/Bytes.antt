@@ -19,7 +19,8 @@ pub record IsBytesCode (code : ℕ) : Type 0 where
 
 -- so many bytes from a place on
 abbrev pub part_line : Item → ℤ → ℤ → Line
-part_line a (pos from) (pos size) = if nat_le (from + size) (length a) then Ok (take size (drop from a)) else Err BadValue
+part_line a (pos from) (pos size) =
+    if nat_le (from + size) (length a) then Ok (take size (drop from a)) else Err BadValue
 part_line a (pos from) (negsuc size) = Err BadValue
 part_line a (negsuc from) size = Err BadValue
 
