@@ -26,7 +26,8 @@ DoesReply hash check words before after status =
 
 -- ---- growth
 
--- The ledger's file has then the frames of exactly the accepted offers behind what it had, and reads as the longer chain.
+-- The ledger's file has then the frames of exactly the accepted offers behind what it had, and reads as the longer
+-- chain.
 pub record Grown (hash : Hash) (check : Check) (ledger offers : Word) (contents : List ℕ → Content) (after : World)
     : Type 0 where
   pub reply : Reply

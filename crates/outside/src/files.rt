@@ -52,5 +52,7 @@ pub trait Files {
         ensures read_count { read_faults self.new ≡ read_faults self.old };
 
     /// What is told of a file is a list of bytes.
-    ghost contents_are_bytes: { (files : Self) (of : List ℕ → Content) (name : List ℕ) → contents files ≡ Some of → HoldsBytes (of name) };
+    ghost contents_are_bytes: { (files : Self) (of : List ℕ → Content) (name : List ℕ)
+        → contents files ≡ Some of
+        → HoldsBytes (of name) };
 }

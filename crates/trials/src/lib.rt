@@ -19,6 +19,10 @@ mod vm_code_calls;
 #[cfg(test)]
 mod vm_num_calls;
 #[cfg(test)]
+mod vm_num_operations;
+#[cfg(test)]
+mod vm_ops_calls;
+#[cfg(test)]
 mod vm_run_calls;
 #[cfg(test)]
 mod wire_calls;

@@ -1,3 +1,4 @@
 pub mod Failure
 pub mod Item
+pub mod Operations
 pub mod Push

@@ -5,11 +5,13 @@
 mod failure;
 mod memory;
 mod number;
+mod operations;
 mod push;
 mod sums;
 
 pub use failure::Failure;
 pub use memory::NoMemory;
 pub use number::{Num, read_num, truth, write_num};
+pub use operations::{div, mul, rem, shl, shr};
 pub use push::{push_bytes, push_int};
 pub use sums::{add, sub};
