@@ -1,1 +1,2 @@
-mod Reversed
+pub mod Costs
+pub mod Reversed

@@ -1,12 +1,7 @@
 -- A list seen from its end.
-use Rattle.std.proofs.Common.{◌≡◌, ℕ, suc, ◌+◌, ◌-◌, ◌<◌, List, [], ◌∷◌, ◌++◌, length, take, drop, reverse, get_or, sym, ◌∙◌, ap, arith, length-drop, sum_by}
+use Rattle.std.proofs.Common.{◌≡◌, ℕ, suc, ◌+◌, ◌-◌, ◌<◌, ◌≤◌, List, [], ◌∷◌, ◌++◌, length, take, drop, reverse, get_or, sym, ◌∙◌, ap, arith, length-drop}
 use Rattle.std.proofs.lemmas.List.{reverse-append, take_at, drop_at, length-reverse, take-append-drop, get_or-reverse}
-use Rattle.std.proofs.lemmas.List.Sums.{sum_by-cons, sum_by-remove}
-use Rattle.std.proofs.lemmas.List.Sorted.{IsPermutation-reverse, sum_by-IsPermutation}
 use Rattle.std.specs.List.{remove}
-
-pub sum_by-reverse : {X : Type 0} (f : X → ℕ) (xs : List X) → sum_by f (reverse xs) ≡ sum_by f xs
-sum_by-reverse f xs = sum_by-IsPermutation f xs (reverse xs) (IsPermutation-reverse xs)
 
 -- a list in two parts, of which the second has n elements
 module _ {X : Type 0} (xs : List X) (first n : ℕ) (all : first + n ≡ length xs) where
@@ -16,24 +11,26 @@ module _ {X : Type 0} (xs : List X) (first n : ℕ) (all : first + n ≡ length 
   back : length (reverse (drop first xs)) ≡ n
   back = simp (length-reverse, length-drop) (omega arith)
 
-  pub reverse-take : reverse (take first xs) ≡ drop n (reverse xs)
-  reverse-take = sym (ap (drop n) parts ∙ drop_at _ _ n back)
+  front_reversed : drop n (reverse xs) ≡ reverse (take first xs)
+  front_reversed = ap (drop n) parts ∙ drop_at _ _ n back
 
-  pub reverse-drop : reverse (drop first xs) ≡ take n (reverse xs)
-  reverse-drop = sym (ap (take n) parts ∙ take_at _ _ n back)
+  back_reversed : take n (reverse xs) ≡ reverse (drop first xs)
+  back_reversed = ap (take n) parts ∙ take_at _ _ n back
 
--- an element with n behind it
-module _ {X : Type 0} (xs : List X) (at n : ℕ) (all : at + suc n ≡ length xs) where
-  pub get_or-turned : (d : X) → get_or xs at d ≡ get_or (reverse xs) n d
-  get_or-turned d = let place : length xs - 1 - n ≡ at = omega arith in sym (get_or-reverse xs n d (omega arith) ∙ ap (λ i. get_or xs i d) place)
+module _ {X : Type 0} (n : ℕ) (xs : List X) where
+  pub drop-reverse : n ≤ length xs → drop n (reverse xs) ≡ reverse (take (length xs - n) xs)
+  drop-reverse within = front_reversed xs (length xs - n) n (omega arith)
 
-  pub reverse-remove : reverse (remove xs at) ≡ remove (reverse xs) n
-  reverse-remove =
-      let behind : suc at + n ≡ length xs = omega arith in
-      reverse-append (take at xs) (drop (suc at) xs) ∙ (ap (λ l. l ++ reverse (take at xs)) (reverse-drop xs (suc at) n behind) ∙ ap (λ l. take n (reverse xs) ++ l) (reverse-take xs at (suc n) all))
+  pub take-reverse : n ≤ length xs → take n (reverse xs) ≡ reverse (drop (length xs - n) xs)
+  take-reverse within = back_reversed xs (length xs - n) n (omega arith)
 
-  pub reverse-last_from : (d : X) → reverse (remove xs at ++ get_or xs at d ∷ []) ≡ get_or (reverse xs) n d ∷ remove (reverse xs) n
-  reverse-last_from d = reverse-append (remove xs at) (get_or xs at d ∷ []) ∙ (ap (λ l. get_or xs at d ∷ l) reverse-remove ∙ ap (λ x. x ∷ remove (reverse xs) n) (get_or-turned d))
+-- the element with n behind it, and the others
+module _ {X : Type 0} (n : ℕ) (xs : List X) (within : n < length xs) where
+  pub remove-reverse : remove (reverse xs) n ≡ reverse (remove xs (length xs - 1 - n))
+  remove-reverse =
+      let at : ℕ = length xs - 1 - n in
+      let before : take n (reverse xs) ≡ reverse (drop (suc at) xs) = back_reversed xs (suc at) n (omega arith) in
+      let behind : drop (suc n) (reverse xs) ≡ reverse (take at xs) = front_reversed xs at (suc n) (omega arith) in
+      rw (before, behind) (sym (reverse-append (take at xs) (drop (suc at) xs)))
 
-pub sum_by-turned : {X : Type 0} (f : X → ℕ) (xs : List X) (n : ℕ) (d : X) → n < length xs → sum_by f (get_or xs n d ∷ remove xs n) ≡ sum_by f xs
-sum_by-turned f xs n d within = omega (arith, sum_by-cons f (get_or xs n d) (remove xs n), sum_by-remove f xs n d within)
+pub ruleset turned = (drop-reverse, take-reverse, remove-reverse, get_or-reverse, reverse-append)

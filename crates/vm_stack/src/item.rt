@@ -35,6 +35,7 @@ impl Item {
 }
 
 /// What the items behind the first so many cost.
+#[tactic(auto, using(crate::proofs::Costs::costs))]
 pub fn cost_behind(items: &[Item], first: usize) -> u64
     requires within { first ≤ length items.now }
     requires fits { cost items.now < 2 ^ 64 }

@@ -1,5 +1,5 @@
 ghost use Rattle.std.specs.Prelude.{◌≡◌, ◌≢◌, ◌≤◌, ◌<◌, ◌^◌, ◌+◌, ◌-◌, ◌↔◌, [], ◌∷◌, length, take, drop, IsErrOf, IsOkUnless, OnOk, OnErr, IfOk, IfErr, IfSome, IsNone, ◌++◌, vec_len, slice_index_or, remove};
-ghost use Rattle.vm_stack.specs.Stacks.{held_cost, picked, rolled, moved_to_alt, moved_from_alt};
+ghost use Rattle.vm_stack.specs.Stacks.{cost, held_cost, picked, rolled, moved_to_alt, moved_from_alt};
 
 use crate::StackFault;
 use crate::item::{Item, cost_behind};
@@ -10,8 +10,9 @@ use std::marker::Model;
 /// A data stack and an alt stack, and what their items cost: 8 and its length for each (Chain VM 1, the cost of an
 /// item).
 ///
-/// That sum is kept below 2^64. Each byte that it counts stands in memory, and each 8 for the three words of a vector
-/// there, so a stack that costs more cannot be had: a push that would pass 2^64 - 1 answers `NoMemory`.
+/// That sum is kept below 2^64. Each byte that it counts stands in memory, and so do the three words of each item's
+/// vector, for which it counts 8. So no memory holds a stack that costs more, and a push that would pass 2^64 - 1
+/// answers `NoMemory`.
 #[derive(Drop)]
 pub struct Stack {
     // Of both the deepest item first.
@@ -60,13 +61,14 @@ impl Stack {
     }
 
     /// What the items of both stacks cost together.
+    #[tactic(auto, using(crate::proofs::Costs::costs))]
     pub fn held(&self) -> u64
         ensures { result ≡ held_cost self.now }
     {
         self.held
     }
 
-    /// Puts a copy of an item on top. `NoMemory` is the only refusal.
+    /// Puts a copy of an item on top.
     pub fn push(&mut self, item: &[u8]) -> Result<(), StackFault>
         ensures ok { OnOk result (self.new ≡ record self.old { items = item.now ∷ self.old.items }) }
         ensures fault { IsOkUnless result StackFault.NoMemory }
@@ -76,7 +78,8 @@ impl Stack {
         self.push_vec(item)
     }
 
-    /// Puts an item on top that is moved there, not copied. `NoMemory` is the only refusal, and drops it.
+    /// Puts an item on top, moved and not copied. A refusal drops it.
+    #[tactic(auto, using(crate::proofs::Costs::costs))]
     pub fn push_vec(&mut self, item: Vec<u8>) -> Result<(), StackFault>
         ensures ok { OnOk result (self.new ≡ record self.old { items = item.items ∷ self.old.items }) }
         ensures fault { IsOkUnless result StackFault.NoMemory }
@@ -90,7 +93,8 @@ impl Stack {
         Ok(())
     }
 
-    /// Drops the top n items. It takes no memory.
+    /// Drops the top n items. `Underflow` comes exactly where there are fewer. It takes no memory.
+    #[tactic(auto, using(crate::proofs::Reversed::turned))]
     pub fn drop_top(&mut self, n: u64) -> Result<(), StackFault>
         ensures ok { OnOk result (self.new ≡ record self.old { items = drop n self.old.items }) }
         ensures underflow { IsErrOf result StackFault.Underflow ↔ (length self.old.items < n) }
@@ -121,6 +125,7 @@ impl Stack {
 
     /// Moves the item n below the top onto the top. `Underflow` comes exactly where there are at most n items. It takes
     /// no memory.
+    #[tactic(auto, using(crate::proofs::Reversed::turned, crate::proofs::Costs::costs))]
     pub fn roll(&mut self, n: u64) -> Result<(), StackFault>
         ensures ok { OnOk result (self.new ≡ record self.old { items = rolled n self.old.items }) }
         ensures underflow { IsErrOf result StackFault.Underflow ↔ (length self.old.items ≤ n) }
@@ -173,6 +178,7 @@ impl Stack {
 
     /// Moves the top n items, in their order, to a new stack, whose alt stack is empty. `Underflow` comes exactly where
     /// there are fewer.
+    #[tactic(auto, using(crate::proofs::Reversed::turned))]
     pub fn split_top(&mut self, n: u64) -> Result<Stack, StackFault>
         ensures top { IfOk result (λ top. top ≡ record { items = take n self.old.items; alt = [] }) }
         ensures left { OnOk result (self.new ≡ record self.old { items = drop n self.old.items }) }
@@ -209,7 +215,8 @@ impl Pile for Stack {
 // Makes the item at this place the last, and keeps the order of the others.
 fn last_from(items: &mut Vec<Item>, at: usize)
     requires { at < vec_len items.old }
-    ensures { items.new.items ≡ remove items.old.items at ++ slice_index_or items.old.items at [] ∷ [] }
+    ensures items { items.new.items ≡ remove items.old.items at ++ slice_index_or items.old.items at [] ∷ [] }
+    ensures cost { cost items.new.items ≡ cost items.old.items }
 {
     items[at..].rotate_left(1);
 }
@@ -224,7 +231,7 @@ fn sum_with(held: u64, len: usize) -> Option<u64>
 
 // How many of so many items stand below the top n.
 fn below(depth: usize, n: u64) -> Result<usize, StackFault>
-    ensures ok { IfOk result (λ left. left + n ≡ depth) }
+    ensures ok { IfOk result (λ left. left ≡ depth - n) }
     ensures underflow { IsErrOf result StackFault.Underflow ↔ (depth < n) }
     ensures fault { IsOkUnless result StackFault.Underflow }
 {
