@@ -3,7 +3,9 @@
 #![tactic(auto)]
 
 mod hashes;
+mod pile;
 mod signatures;
 
 pub use hashes::{IdHash, Sha256Id};
+pub use pile::Pile;
 pub use signatures::{NoSigs, SigCheck};

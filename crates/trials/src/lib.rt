@@ -25,4 +25,6 @@ mod vm_ops_calls;
 #[cfg(test)]
 mod vm_run_calls;
 #[cfg(test)]
+mod vm_stack_calls;
+#[cfg(test)]
 mod wire_calls;
