@@ -4,20 +4,17 @@
 
 mod fault;
 mod laws;
-mod lists;
+mod listed;
 mod memory;
 mod numbers;
 mod strings;
 
 pub use fault::WireFault;
 pub use laws::spellings;
-pub use lists::{Args, Bytes};
+pub use listed::{Args, Bytes, Listed, Twin};
 pub use memory::NoMemory;
 pub use numbers::{put_varint, take_varint};
 pub use strings::{put_varstring, take_varstring};
 
 /// The name of an entry or an asset: 32 raw bytes.
 pub type Id = [u8; 32];
-
-#[cfg(test)]
-mod tests;
