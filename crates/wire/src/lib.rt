@@ -9,8 +9,8 @@ mod memory;
 mod numbers;
 mod strings;
 
-pub use fault::WireFault;
-pub use laws::spellings;
+pub use fault::{DataFault, DataKind, WireFault};
+pub use laws::{layout_readings, spellings};
 pub use listed::{Args, Bytes, Listed, Twin};
 pub use memory::NoMemory;
 pub use numbers::{put_varint, take_varint};
