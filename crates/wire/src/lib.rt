@@ -2,6 +2,7 @@
 //! significant group first and the high bit set on all bytes but the last; a string is its length and its bytes.
 #![tactic(auto)]
 
+mod cursor;
 mod fault;
 mod laws;
 mod listed;
@@ -9,6 +10,7 @@ mod memory;
 mod numbers;
 mod strings;
 
+pub use cursor::Cursor;
 pub use fault::{DataFault, DataKind, WireFault};
 pub use laws::{layout_readings, spellings};
 pub use listed::{Args, Bytes, Listed, Twin};
