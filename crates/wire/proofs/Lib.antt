@@ -9,3 +9,4 @@ pub mod FieldReaders
 pub mod WholeReaders
 pub mod LayoutReaders
 pub mod SpellingLaws
+pub mod Loop

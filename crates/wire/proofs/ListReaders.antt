@@ -8,7 +8,7 @@ use Rattle.std.proofs.lemmas.List.Concat.{flat_map-cons}
 use Rattle.wire.specs.declared.fault.DataKind.{DataKind}
 use Rattle.wire.specs.declared.fault.DataKind.TheVariants.{TooBig}
 use Rattle.wire.specs.Spelling.{AreBytes}
-use Rattle.wire.specs.Places.{Place, Fault, Reading, ◌>>=◌, mapped, fault_here, passes_room, items_at}
+use Rattle.wire.specs.Places.{Place, Fault, Reading, ◌>>=◌, mapped, fault_here, passes_room, in_room, items_at}
 use Rattle.wire.specs.Layout.{IsWithin, AreItems}
 use Rattle.wire.specs.FirstFault.{Faults, FaultHere, FaultBehind, BehindValue, Either, RoomFault, PassesRoom, FitsRoom, ItemsFault}
 use Rattle.wire.specs.Readers.{Passes, FaultAt, Answers, fault_at, IsReader}
@@ -86,6 +86,21 @@ module _ {X : Type 0} (fits : X → Type 0) (spell : X → List ℕ) (F : Faults
     abbrev rest_at : Place → ℕ → X × Place → Reading (List X)
     rest_at p size x = cond (passes_room room (used + size)) (Err (fault_here p TooBig)) (items_at room read n (used + size) x.1)
 
+    -- how a record and those behind it are read
+    chosen : (p : Place) (x : X × Place) (t : Bool) → (cond t (Err (fault_here p TooBig)) (Ok x) >>= λ first. pushed first.0 (items_at room read n (used + (first.1.at - p.at)) first.1))
+        ≡ pushed x.0 (cond t (Err (fault_here p TooBig)) (items_at room read n (used + (x.1.at - p.at)) x.1))
+    chosen p x true = refl
+    chosen p x false = refl
+
+    step_of : (p : Place) (r : Reading X) → ((r >>= in_room room used p) >>= λ first. pushed first.0 (items_at room read n (used + (first.1.at - p.at)) first.1))
+        ≡ (r >>= λ x. pushed x.0 (rest_at p (x.1.at - p.at) x))
+    step_of p (Ok x) = chosen p x (passes_room room (used + (x.1.at - p.at)))
+    step_of p (Err f) = refl
+
+    step : (p : Place) → items_at room read (suc n) used p ≡ (read p >>= λ x. pushed x.0 (rest_at p (x.1.at - p.at) x))
+    unfolding items_at
+    step p = step_of p (read p)
+
     room_sound : (p : Place) → AreBytes p.rest → (x : X × Place) → fits x.0 → Passes p (spell x.0) x.1 → (t : Bool) → passes_room room (used + length (spell x.0)) ≡ t
         → Whole p (pushed x.0 (cond t (Err (fault_here p TooBig)) (items_at room read n (used + length (spell x.0)) x.1)))
     room_sound p b x h m true e = record {
@@ -106,11 +121,10 @@ module _ {X : Type 0} (fits : X → Type 0) (spell : X → List ℕ) (F : Faults
 
     -- one record was read, and the others are read behind it
     first_read : (p : Place) (x : X) (q : Place) → fits x → Passes p (spell x) q → items_at room read (suc n) used p ≡ pushed x (rest_at p (length (spell x)) (x, q))
-    unfolding items_at
     first_read p x q h m =
         let e : read p ≡ Ok (x, q) = one.again p x q h m in
         let size : q.at - p.at ≡ length (spell x) = omega (arith, m.at) in
-        rw (e, size) refl
+        step p ∙ rw (e, size) refl
 
     items_again : (p : Place) (xs : List X) (q : Place) → ItemsFit (suc n) used xs → Passes p (flat_map spell xs) q → items_at room read (suc n) used p ≡ Ok (xs, q)
     items_again p [] q h m = absurd (omega (arith, h.0))
@@ -146,15 +160,13 @@ module _ {X : Type 0} (fits : X → Type 0) (spell : X → List ℕ) (F : Faults
         ∙ rw (left, others) (same_fault (fault_at mid h.behind.place kind) (fault_at p off kind) (omega (arith, h.behind.further)) refl)
 
     items_told : (p : Place) (off : ℕ) (kind : DataKind) → AreBytes p.rest → ItemsFault fits spell F room (suc n) used p.rest off kind → items_at room read (suc n) used p ≡ Err (fault_at p off kind)
-    unfolding items_at
-    items_told p off kind b (inl h) = rw (one.told p off kind b h) refl
+    items_told p off kind b (inl h) = step p ∙ rw (one.told p off kind b h) refl
     items_told p off kind b (inr (inl h)) = room_told p off kind h
     items_told p off kind b (inr (inr h)) = behind_told p off kind b h
 
     more_reader : IsItemsReader (suc n) used
-    unfolding items_at
     more_reader = record {
-      sound = λ p b. first_sound p b (read p) (one.sound p b);
+      sound = λ p b. subst (λ (r : Reading (List X)). Whole p r) (sym (step p)) (first_sound p b (read p) (one.sound p b));
       again = items_again;
       told = items_told;
     }

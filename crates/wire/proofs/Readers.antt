@@ -1,6 +1,6 @@
 -- Readers made of readers, each of which is right where its parts are.
 use Rattle.std.proofs.Common.{◌≡◌, ℕ, zero, suc, ◌+◌, ◌-◌, ◌≤◌, ◌<◌, Bool, true, false, cond, eqb, ltb, List, [], ◌∷◌, ◌++◌, length, take, drop, Option, Some, None, Result, Ok, Err, refl, sym, ap, subst, ◌∙◌, append_assoc, inl, inr, arith}
-use Rattle.std.specs.Prelude.{◌⊎◌, IsTrue, not}
+use Rattle.std.specs.Prelude.{◌⊎◌, OnOk}
 use Rattle.std.specs.List.{flat_map, AllByRecursion}
 use Rattle.std.proofs.lemmas.Bool.{lt-ltb, le-ltb, ltb-true, ltb-false, eqb-true, ne_eqb, eqb-false}
 use Rattle.std.proofs.lemmas.List.{length-append, append-nil, nil_from_length}
@@ -8,7 +8,8 @@ use Rattle.std.proofs.lemmas.List.Concat.{flat_map-cons}
 use Rattle.wire.specs.declared.fault.DataKind.{DataKind}
 use Rattle.wire.specs.declared.fault.DataKind.TheVariants.{TooBig, Trailing}
 use Rattle.wire.specs.Spelling.{AreBytes}
-use Rattle.wire.specs.Places.{Place, Fault, Reading, ◌>>=◌, mapped, fault_here, moved, passes_room, items_at, ended, whole_at}
+use Rattle.wire.specs.declared.fault.DataFault.{DataFault}
+use Rattle.wire.specs.Places.{Place, Fault, Reading, Reads, ◌>>=◌, mapped, fault_here, moved, passes_room, items_at, ended, whole_at}
 use Rattle.wire.specs.Layout.{IsWithin, AreItems}
 use Rattle.wire.specs.FirstFault.{Faults, FaultHere, FaultBehind, BehindValue, Either, NoFault, RoomFault, PassesRoom, FitsRoom, ItemsFault, Left, WholeFault}
 use Rattle.wire.specs.Readers.{Passes, FaultAt, Answers, fault_at, IsReader}
@@ -179,3 +180,11 @@ IsReader-same fits spell F read other same r = record {
   again = λ p x q h m. sym (same p) ∙ r.again p x q h m;
   told = λ p off kind b h. sym (same p) ∙ r.told p off kind b h;
 }
+
+-- a reader goes on
+pub goes_forward : {X : Type 0} (fits : X → Type 0) (spell : X → List ℕ) (F : Faults) (read : Place → Reading X) → IsReader fits spell F read
+    → (p : Place) → AreBytes p.rest → (r : Result X DataFault) (q : Place) → Reads r q (read p) → OnOk r (p.at ≤ q.at)
+goes_forward fits spell F read one p b (Ok x) q e =
+    let h : Answers fits spell F p (Ok (x, q)) = subst (λ (r : Reading _). Answers fits spell F p r) e (one.sound p b) in
+    omega (arith, h.1.at)
+goes_forward fits spell F read one p b (Err f) q e = tt

@@ -1,8 +1,11 @@
 -- What follows of the spellings that a reader reads.
 use Rattle.std.proofs.Common.{◌≡◌, ℕ, ◌+◌, List, [], ◌++◌, length, Result, Ok, Err, refl, sym, ap, subst, ◌∙◌, arith}
+use Rattle.std.specs.Prelude.{IfOk}
 use Rattle.wire.specs.declared.fault.DataKind.{DataKind}
 use Rattle.wire.specs.Spelling.{AreBytes}
-use Rattle.wire.specs.Places.{Place, Fault, Reading, start, whole_at}
+use Rattle.wire.specs.declared.fault.DataFault.{DataFault}
+use Rattle.wire.specs.declared.fault.DataFault.TheVariants.{At}
+use Rattle.wire.specs.Places.{Place, Fault, Reading, Gives, start, whole_at}
 use Rattle.wire.specs.FirstFault.{Faults, WholeFault}
 use Rattle.wire.specs.Readers.{FaultAt, Answers, fault_at, IsReader, WholeAnswers, IsWholeReader}
 use Rattle.wire.specs.LayoutLaws.{BeginsAs, ReadsAs, SpellingLaws}
@@ -83,3 +86,25 @@ module _ {X : Type 0} (fits : X → Type 0) (spell : X → List ℕ) (F : Faults
     one_reading = λ bytes r s b hr hs. sym (whole_is bytes r b hr) ∙ whole_is bytes s b hs;
     one_form = one_form;
   }
+
+-- ---- what a function of the code answered
+
+module _ {X : Type 0} (fits : X → Type 0) (spell : X → List ℕ) (F : Faults) (read : Place → Reading X) (one : IsReader fits spell F read)
+  (bytes : List ℕ) (b : AreBytes bytes) (r : Result X DataFault) (e : Gives r (whole_at read (start bytes))) where
+  is_found : (s : Result X DataFault) → Gives s (whole_at read (start bytes)) → IfOk s (λ x. fits x × (bytes ≡ spell x))
+  is_found (Ok x) h = subst (λ (reading : Result X Fault). ReadsAs fits spell F bytes reading) h (whole_reads fits spell F read one bytes b)
+  is_found (Err d) h = tt
+
+  pub found : IfOk r (λ x. fits x × (bytes ≡ spell x))
+  found = is_found r e
+
+  pub only : (x : X) → fits x → bytes ≡ spell x → Gives r (Ok x)
+  only x h spelled = subst (λ (reading : Result X Fault). Gives r reading) (whole_is fits spell F read one bytes (Ok x) b (h, spelled)) e
+
+  pub fault : (f : Fault) → r ≡ Err (At f.at f.kind) → WholeFault fits spell F bytes f.at f.kind
+  fault f is =
+      let reads : whole_at read (start bytes) ≡ Err f = subst (λ (s : Result X DataFault). Gives s (whole_at read (start bytes))) is e in
+      subst (λ (reading : Result X Fault). ReadsAs fits spell F bytes reading) reads (whole_reads fits spell F read one bytes b)
+
+  pub told : (f : Fault) → WholeFault fits spell F bytes f.at f.kind → Gives r (Err f)
+  told f h = subst (λ (reading : Result X Fault). Gives r reading) (whole_is fits spell F read one bytes (Err f) b h) e

@@ -1,8 +1,8 @@
 -- Readers of all of the bytes, and of a record behind its length.
-use Rattle.std.proofs.Common.{◌≡◌, ℕ, zero, suc, ◌+◌, ◌-◌, ◌≤◌, ◌<◌, Bool, true, false, cond, eqb, List, [], ◌∷◌, ◌++◌, length, Result, Ok, Err, refl, sym, ap, subst, ◌∙◌, append_assoc, inl, inr, arith}
+use Rattle.std.proofs.Common.{◌≡◌, ℕ, zero, suc, ◌+◌, ◌-◌, ◌≤◌, ◌<◌, Bool, true, false, cond, eqb, List, [], ◌∷◌, ◌++◌, length, take, drop, Result, Ok, Err, refl, sym, ap, subst, ◌∙◌, append_assoc, inl, inr, arith}
 use Rattle.std.specs.Prelude.{◌⊎◌}
 use Rattle.std.proofs.lemmas.Bool.{eqb-true, ne_eqb}
-use Rattle.std.proofs.lemmas.List.{append-nil, length-append, nil_from_length}
+use Rattle.std.proofs.lemmas.List.{append-nil, length-append, nil_from_length, take-append-drop}
 use Rattle.wire.specs.declared.fault.DataKind.{DataKind}
 use Rattle.wire.specs.declared.fault.DataKind.TheVariants.{Trailing}
 use Rattle.wire.specs.Spelling.{AreBytes, varint, varstring}
@@ -136,3 +136,9 @@ module _ {X : Type 0} (fits : X → Type 0) (spell : X → List ℕ) (F : Faults
       again = frame_again;
       told = frame_told;
     }
+
+-- a string is no longer than its spelling
+pub text_within : (bytes text : List ℕ) (len : ℕ) → take len bytes ≡ varstring text → length text ≤ length bytes - length (drop len bytes)
+unfolding varstring
+text_within bytes text len e =
+    omega (arith, ap length e, length-append (varint (length text)) text, ap length (take-append-drop len bytes), length-append (take len bytes) (drop len bytes))

@@ -99,14 +99,21 @@ abbrev pub passes_room : Option ℕ → ℕ → Bool
 passes_room None size = false
 passes_room (Some most) size = nat_lt most size
 
--- So many of one kind, behind others that took so many bytes. A record that was read is refused at its first byte where
--- all of them take too many.
+-- A record that was read is refused at its first byte where it and those before it take too many bytes.
+abbrev pub in_room : {X : Type 0} → Option ℕ → (used : ℕ) → Place → X × Place → Reading X
+in_room room used place x =
+    if passes_room room (used + (x.1.at - place.at)) then Err (fault_here place TooBig) else Ok x
+
+-- a record behind others that took so many bytes
+abbrev pub item_at : {X : Type 0} → Option ℕ → (Place → Reading X) → (used : ℕ) → Place → Reading X
+item_at room each used place = each place >>= in_room room used place
+
+-- so many of one kind, behind others that took so many bytes
 unfoldable pub items_at : {X : Type 0} → Option ℕ → (Place → Reading X) → (n used : ℕ) → Place → Reading (List X)
 items_at room each zero used place = Ok ([], place)
 items_at room each (suc n) used place = do
-  first ← each place
-  others ← if passes_room room (used + (first.1.at - place.at)) then Err (fault_here place TooBig)
-    else items_at room each n (used + (first.1.at - place.at)) first.1
+  first ← item_at room each used place
+  others ← items_at room each n (used + (first.1.at - place.at)) first.1
   Ok (first.0 ∷ others.0, others.1)
 
 -- a count, and so many
@@ -147,3 +154,8 @@ Gives (Err e) reading = Fails e reading
 abbrev pub Reads : {X : Type 0} → Result X DataFault → Place → Reading X → Type 0
 Reads (Ok x) place reading = reading ≡ Ok (x, place)
 Reads (Err e) place reading = Fails e reading
+
+-- the same of a string, as the place of its first byte
+abbrev pub Holds : Result Place DataFault → Place → Reading (List ℕ) → Type 0
+Holds (Ok held) place reading = (reading ≡ Ok (held.rest, place)) × (held ≡ inside (held.rest, place))
+Holds (Err e) place reading = Fails e reading

@@ -1,6 +1,7 @@
 //! A place in bytes, and the fields that are read there. After a fault the place is of no use.
 ghost use Rattle.std.specs.Prelude.{◌≡◌, ◌↔◌, ◌==◌, ◌≤◌, [], length, drop, IsTrue, Option, Some, None};
-ghost use Rattle.wire.specs.Places.{Reads, start, moved, number_at, raw_at, text_at, kind_at};
+ghost use Rattle.wire.specs.Spelling.{AreBytes};
+ghost use Rattle.wire.specs.Places.{Reads, Holds, start, moved, number_at, raw_at, text_at, kind_at};
 
 use crate::{Bytes, DataFault, DataKind, Id, take_varint, take_varstring};
 use std::alloc::Global;
@@ -39,6 +40,16 @@ impl<'a> Cursor<'a> {
         ensures { result ≡ self.now.at }
     {
         self.at
+    }
+
+    // The bytes that are left, each below 256.
+    pub(crate) fn rest(&self) -> &'a [u8]
+        ensures value { result.now ≡ self.now.rest }
+        ensures bytes { AreBytes result.now }
+    {
+        let rest = self.rest;
+        are_bytes(rest);
+        rest
     }
 
     /// No byte is left.
@@ -130,6 +141,23 @@ impl<'a> Cursor<'a> {
         }
     }
 
+    // The bytes behind a length, as a place of their own.
+    #[tactic(auto, unfolding(crate::specs::Places::text_at))]
+    pub(crate) fn held(&mut self, most: u64) -> Result<Cursor<'a>, DataFault>
+        ensures { Holds result self.new (text_at most self.old) }
+    {
+        match take_varstring(self.rest, most) {
+            Ok((text, len)) => {
+                self.pass(len);
+                Ok(Cursor {
+                    at: self.at - text.len() as u64,
+                    rest: text,
+                })
+            }
+            Err(fault) => Err(self.fault(DataKind::from(fault))),
+        }
+    }
+
     /// The number of a kind, one of so many, in one byte.
     #[tactic(auto, unfolding(crate::specs::Places::kind_at))]
     pub fn kind(&mut self, count: u8) -> Result<u8, DataFault>
@@ -146,3 +174,8 @@ impl<'a> Cursor<'a> {
         Ok(kind)
     }
 }
+
+// A byte is below 256.
+fn are_bytes(bytes: &[u8])
+    ensures { AreBytes bytes.now }
+{}

@@ -8,6 +8,7 @@ mod laws;
 mod listed;
 mod memory;
 mod numbers;
+mod record;
 mod strings;
 
 pub use cursor::Cursor;
@@ -15,6 +16,7 @@ pub use fault::{DataFault, DataKind, WireFault};
 pub use laws::{layout_readings, spellings};
 pub use listed::{Args, Bytes, Listed, Twin};
 pub use memory::NoMemory;
+pub use record::{Record, decode, encode, put_frame, put_many};
 pub use numbers::{put_varint, take_varint};
 pub use strings::{put_varstring, take_varstring};
 
