@@ -8,7 +8,8 @@ use Rattle.wire.specs.Layout.{Layout, Nothing, Number, Amount, Raw, Text, Then, 
 use Rattle.wire.specs.FirstFault.{Faults, FaultHere, NumberFault, Either, BehindValue, ItemsFault, FirstFault, WholeFault}
 use Rattle.wire.specs.Readers.{Passes, FaultAt, Answers, fault_at, IsReader, WholeAnswers, IsWholeReader}
 use Rattle.wire.specs.LayoutLaws.{LayoutLaws}
-use Rattle.wire.proofs.Readers.{both_reader, nothing_reader, mapped_reader, IsReader-same, Passes-behind, behind, same_fault}
+use Rattle.wire.proofs.Readers.{both_reader, nothing_reader}
+use Rattle.wire.specs.Records.{mapped_reader, same_reader}
 use Rattle.wire.proofs.ListReaders.{ItemsFit, IsItemsReader, items_reader, IsWithin-none}
 use Rattle.wire.proofs.FieldReaders.{number_reader, text_reader, raw_reader, kind_reader}
 use Rattle.wire.proofs.WholeReaders.{frame_reader}
@@ -44,7 +45,7 @@ module _ {X : Type 0} (most : ℕ) (room : Option ℕ) (fits : X → Type 0) (sp
 
   pub many_reader : IsReader ManyFits many_spelling ManyFault (many_at most room read)
   many_reader =
-      IsReader-same _ _ _ _ _ (λ p. count_dropped p (number_at 0 most p))
+      same_reader _ _ _ _ _ (λ p. count_dropped p (number_at 0 most p))
       (mapped_reader _ _ ManyFits many_spelling _ _ (λ v. v.1)
       (record {
         there = many_reader_there;

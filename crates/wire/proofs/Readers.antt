@@ -9,7 +9,7 @@ use Rattle.wire.specs.declared.fault.DataKind.{DataKind}
 use Rattle.wire.specs.declared.fault.DataKind.TheVariants.{TooBig, Trailing}
 use Rattle.wire.specs.Spelling.{AreBytes}
 use Rattle.wire.specs.declared.fault.DataFault.{DataFault}
-use Rattle.wire.specs.Places.{Place, Fault, Reading, Reads, ◌>>=◌, mapped, fault_here, moved, passes_room, items_at, ended, whole_at}
+use Rattle.wire.specs.Places.{Place, Fault, Reading, Reads, ◌>>=◌, fault_here, moved, passes_room, items_at, ended, whole_at}
 use Rattle.wire.specs.Layout.{IsWithin, AreItems}
 use Rattle.wire.specs.FirstFault.{Faults, FaultHere, FaultBehind, BehindValue, Either, NoFault, RoomFault, PassesRoom, FitsRoom, ItemsFault, Left, WholeFault}
 use Rattle.wire.specs.Readers.{Passes, FaultAt, Answers, fault_at, IsReader}
@@ -148,37 +148,6 @@ nothing_reader = record {
   sound = λ p fits. (tt, Passes-none p);
   again = λ p v q h m. ap (λ (to : Place). Ok (v, to)) (place_is p q (omega (arith, m.at)) m.bytes);
   told = λ p off kind fits h. absurd h;
-}
-
--- ---- the same reader, of other values
-
-module _ {A B : Type 0} (fitsA : A → Type 0) (spellA : A → List ℕ) (fitsB : B → Type 0) (spellB : B → List ℕ) (F : Faults) (read : Place → Reading A) (to : A → B) where
-  -- each value that is read stands for one of the others, and each of those is read so
-  pub record StandFor : Type 0 where
-    pub there : (a : A) → fitsA a → fitsB (to a) × (spellA a ≡ spellB (to a))
-    pub back : (b : B) → fitsB b → (a : A) × fitsA a × (to a ≡ b) × (spellB b ≡ spellA a)
-
-  mapped_sound : StandFor → (p : Place) (r : Reading A) → Answers fitsA spellA F p r → Answers fitsB spellB F p (mapped to r)
-  mapped_sound stand p (Ok x) h = (let b = stand.there x.0 h.0 in (b.0, subst (λ (front : List ℕ). Passes p front x.1) b.1 h.1))
-  mapped_sound stand p (Err f) h = h
-
-  pub mapped_reader : StandFor → IsReader fitsA spellA F read → IsReader fitsB spellB F (λ p. mapped to (read p))
-  mapped_reader stand r = record {
-    sound = λ p fits. mapped_sound stand p (read p) (r.sound p fits);
-    again = λ p b q h m.
-      (let a = stand.back b h in
-      let e : read p ≡ Ok (a.0, q) = r.again p a.0 q a.1 (subst (λ (front : List ℕ). Passes p front q) a.3 m) in
-      rw e (ap (λ (y : B). Ok (y, q)) a.2));
-    told = λ p off kind fits h. rw (r.told p off kind fits h) refl;
-  }
-
--- the same reader, written in another way
-pub IsReader-same : {X : Type 0} (fits : X → Type 0) (spell : X → List ℕ) (F : Faults) (read other : Place → Reading X) → ((p : Place) → read p ≡ other p)
-    → IsReader fits spell F read → IsReader fits spell F other
-IsReader-same fits spell F read other same r = record {
-  sound = λ p b. subst (λ (answer : Reading _). Answers fits spell F p answer) (same p) (r.sound p b);
-  again = λ p x q h m. sym (same p) ∙ r.again p x q h m;
-  told = λ p off kind b h. sym (same p) ∙ r.told p off kind b h;
 }
 
 -- a reader goes on

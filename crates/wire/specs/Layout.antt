@@ -2,7 +2,7 @@
 use Rattle.std.specs.Prelude.{◌≡◌, ℕ, zero, suc, ◌+◌, ◌^◌, ◌≤◌, ◌<◌, List, [], ◌∷◌, ◌++◌, length, Option, Some, None, Ok}
 use Rattle.std.specs.List.{flat_map, AllByRecursion}
 use Rattle.wire.specs.Spelling.{varint, varstring}
-use Rattle.wire.specs.Places.{Place, Reading, ◌>>=◌, number_at, raw_at, text_at, kinds_at, many_at, frame_at}
+use Rattle.wire.specs.Places.{Place, Reading, then_at, number_at, raw_at, text_at, kinds_at, many_at, frame_at}
 
 pub data Layout : Type 0 where
   -- no bytes
@@ -96,10 +96,7 @@ read_at (Number most) place = number_at 0 most place
 read_at (Amount most) place = number_at 1 most place
 read_at (Raw len) place = raw_at len place
 read_at (Text most) place = text_at most place
-read_at (Then first second) place = do
-  x ← read_at first place
-  y ← read_at second x.1
-  Ok ((x.0, y.0), y.1)
+read_at (Then first second) place = then_at (read_at first) (read_at second) place
 read_at (Many most room each) place = many_at most room (read_at each) place
 read_at (Kinds count kind) place = kinds_at count (λ k. read_at (kind k)) place
 read_at (Frame most held) place = frame_at most (read_at held) place

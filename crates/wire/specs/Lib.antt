@@ -6,3 +6,4 @@ pub mod Layout
 pub mod FirstFault
 pub mod Readers
 pub mod LayoutLaws
+pub mod Records

@@ -54,6 +54,13 @@ abbrev pub spelling_at : {X : Type 0} → Place → Read X → Reading X
 spelling_at place (Ok x) = Ok (x.0, moved place x.1)
 spelling_at place (Err e) = Err (fault_here place (kind_of e))
 
+-- one after the other
+abbrev pub then_at : {A B : Type 0} → (Place → Reading A) → (Place → Reading B) → Place → Reading (A × B)
+then_at first second place = do
+  x ← first place
+  y ← second x.1
+  Ok ((x.0, y.0), y.1)
+
 -- ---- fields
 
 -- a number that was spelled, against its limits

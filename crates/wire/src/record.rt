@@ -25,7 +25,7 @@ pub trait Record: Drop + Sized {
         ensures { Reads result cursor.new (reading cursor.old) };
 
     /// Appends the spelling of a record. After a refusal `out` is as it was.
-    fn write(&self, out: &mut Bytes) -> Result<(), NoMemory>
+    fn write(&self, alloc: Global, out: &mut Bytes) -> Result<(), NoMemory>
         requires { fits self.now }
         ensures ok { OnOk result (out.new ≡ out.old ++ spelling self.now) }
         ensures err { OnErr result (out.new ≡ out.old) };
@@ -73,12 +73,12 @@ pub fn encode<T: Record>(alloc: Global, value: &T) -> Result<Vec<u8>, NoMemory>
     ensures { IfOk result (λ bytes. bytes.items ≡ T.spelling value.now) }
 {
     let mut out = Bytes::new(alloc);
-    value.write(&mut out)?;
+    value.write(alloc, &mut out)?;
     Ok(out.into_vec())
 }
 
 /// Appends how many records there are, and the records. After a refusal `out` is as it was.
-pub fn put_many<T: Record>(out: &mut Bytes, records: &[T]) -> Result<(), NoMemory>
+pub fn put_many<T: Record>(alloc: Global, out: &mut Bytes, records: &[T]) -> Result<(), NoMemory>
     requires count { length records.now < 2 ^ 63 }
     requires each { AllByRecursion T.fits records.now }
     ensures ok { OnOk result (out.new ≡ out.old ++ (varint (length records.now) ++ flat_map T.spelling records.now)) }
@@ -86,7 +86,7 @@ pub fn put_many<T: Record>(out: &mut Bytes, records: &[T]) -> Result<(), NoMemor
 {
     let len = out.len();
     put_varint(out, records.len() as u64)?;
-    if put_all(out, records).is_err() {
+    if put_all(alloc, out, records).is_err() {
         out.truncate(len);
         return Err(NoMemory);
     }
@@ -94,12 +94,12 @@ pub fn put_many<T: Record>(out: &mut Bytes, records: &[T]) -> Result<(), NoMemor
 }
 
 // Appends records. After a refusal some of them stand there.
-fn put_all<T: Record>(out: &mut Bytes, records: &[T]) -> Result<(), NoMemory>
+fn put_all<T: Record>(alloc: Global, out: &mut Bytes, records: &[T]) -> Result<(), NoMemory>
     requires { AllByRecursion T.fits records.now }
     ensures { MatchResult result (λ _. out.new ≡ out.old ++ flat_map T.spelling records.now) (λ _. take (length out.old) out.new ≡ out.old) }
 {
     for value in records {
-        value.write(out)?;
+        value.write(alloc, out)?;
     }
     Ok(())
 }
@@ -111,7 +111,7 @@ pub fn put_frame<T: Record>(alloc: Global, out: &mut Bytes, value: &T) -> Result
     ensures err { OnErr result (out.new ≡ out.old) }
 {
     let mut held = Bytes::new(alloc);
-    value.write(&mut held)?;
+    value.write(alloc, &mut held)?;
     put_varstring(out, held.as_slice())
 }
 
@@ -136,7 +136,7 @@ impl Record for Bytes {
         cursor.text(alloc, MAX_STRING_LEN)
     }
 
-    fn write(&self, out: &mut Bytes) -> Result<(), NoMemory> {
+    fn write(&self, _alloc: Global, out: &mut Bytes) -> Result<(), NoMemory> {
         put_varstring(out, self.as_slice())
     }
 
