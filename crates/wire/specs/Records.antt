@@ -3,6 +3,8 @@ use Rattle.std.specs.Prelude.{◌≡◌, ◌==◌, ◌+◌, ◌-◌, ℕ, zero, 
 use Rattle.std.specs.List.{flat_map, AllByRecursion}
 use Rattle.std.proofs.Common.{sym, ap, subst, ◌∙◌}
 use Rattle.std.proofs.lemmas.List.Concat.{flat_map-cons}
+use Rattle.std.proofs.lemmas.List.{length-map}
+use Rattle.wire.specs.Spelling.{varint}
 use Rattle.wire.specs.declared.fault.DataKind.TheVariants.{TooBig, Trailing}
 use Rattle.wire.specs.Places.{Place, Fault, Reading, ◌>>=◌, mapped, then_at, kind_at, kinds_at, fault_here, passes_room, in_room, items_at, many_at, number_at}
 use Rattle.wire.specs.Places.{ended, whole_at, text_at, inside, frame_at}
@@ -183,3 +185,10 @@ flat_map-map f spell (x ∷ xs) =
 pub AllByRecursion-map : {A B : Type 0} (f : A → B) (fits : B → Type 0) (xs : List A) → AllByRecursion fits (map f xs) → AllByRecursion (λ x. fits (f x)) xs
 AllByRecursion-map f fits [] h = tt
 AllByRecursion-map f fits (x ∷ xs) h = (h.0, AllByRecursion-map f fits xs h.1)
+
+-- a list of records is spelled as the list of their parts
+pub many_spelling_map : {A B : Type 0} (f : A → B) (spell : B → List ℕ) (xs : List A)
+    → varint (length (map f xs)) ++ flat_map spell (map f xs) ≡ varint (length xs) ++ flat_map (λ x. spell (f x)) xs
+many_spelling_map f spell xs =
+    ap (λ (n : ℕ). varint n ++ flat_map spell (map f xs)) (length-map xs f)
+    ∙ ap (λ (bytes : List ℕ). varint (length xs) ++ bytes) (flat_map-map f spell xs)

@@ -1,5 +1,5 @@
 //! Records that are read from bytes and written to them, and lists and frames of them.
-ghost use Rattle.std.specs.Prelude.{◌≡◌, ◌↔◌, ◌==◌, ◌≤◌, ◌<◌, ◌^◌, ◌++◌, ◌-◌, [], ◌∷◌, ℕ, List, length, Ok, Err, OnOk, OnErr, IfOk, MatchResult, take};
+ghost use Rattle.std.specs.Prelude.{◌≡◌, ◌↔◌, ◌==◌, ◌≤◌, ◌<◌, ◌^◌, ◌++◌, ◌-◌, [], ◌∷◌, ℕ, List, length, Ok, Err, OnOk, OnErr, IfOk};
 ghost use Rattle.std.specs.List.{flat_map, AllByRecursion};
 ghost use Rattle.wire.specs.Spelling.{varint, varstring};
 ghost use Rattle.wire.specs.Places.{Place, Fault, Reading, Reads, Gives, start, passes_room, item_at, items_at, many_at, whole_at, frame_at};
@@ -24,11 +24,10 @@ pub trait Record: Drop + Sized {
     fn read(alloc: Global, cursor: &mut Cursor<'_>) -> Result<Self, DataFault>
         ensures { Reads result cursor.new (reading cursor.old) };
 
-    /// Appends the spelling of a record. After a refusal `out` is as it was.
+    /// Appends the spelling of a record. After a refusal some of it may stand there: `put` leaves `out` as it was.
     fn write(&self, alloc: Global, out: &mut Bytes) -> Result<(), NoMemory>
         requires { fits self.now }
-        ensures ok { OnOk result (out.new ≡ out.old ++ spelling self.now) }
-        ensures err { OnErr result (out.new ≡ out.old) };
+        ensures { OnOk result (out.new ≡ out.old ++ spelling self.now) };
 
     /// The reading is right: what it reads fits and was spelled, what fits and is spelled is read, and what it tells is the
     /// first fault. It does nothing when it runs.
@@ -77,27 +76,24 @@ pub fn encode<T: Record>(alloc: Global, value: &T) -> Result<Vec<u8>, NoMemory>
     Ok(out.into_vec())
 }
 
-/// Appends how many records there are, and the records. After a refusal `out` is as it was.
-pub fn put_many<T: Record>(alloc: Global, out: &mut Bytes, records: &[T]) -> Result<(), NoMemory>
-    requires count { length records.now < 2 ^ 63 }
-    requires each { AllByRecursion T.fits records.now }
-    ensures ok { OnOk result (out.new ≡ out.old ++ (varint (length records.now) ++ flat_map T.spelling records.now)) }
+/// Appends the spelling of a record. After a refusal `out` is as it was.
+pub fn put<T: Record>(alloc: Global, out: &mut Bytes, value: &T) -> Result<(), NoMemory>
+    requires { T.fits value.now }
+    ensures ok { OnOk result (out.new ≡ out.old ++ T.spelling value.now) }
     ensures err { OnErr result (out.new ≡ out.old) }
 {
-    let len = out.len();
-    put_varint(out, records.len() as u64)?;
-    if put_all(alloc, out, records).is_err() {
-        out.truncate(len);
-        return Err(NoMemory);
-    }
-    Ok(())
+    let held = encode(alloc, value)?;
+    out.extend_from_slice(held.as_slice())
 }
 
-// Appends records. After a refusal some of them stand there.
-fn put_all<T: Record>(alloc: Global, out: &mut Bytes, records: &[T]) -> Result<(), NoMemory>
-    requires { AllByRecursion T.fits records.now }
-    ensures { MatchResult result (λ _. out.new ≡ out.old ++ flat_map T.spelling records.now) (λ _. take (length out.old) out.new ≡ out.old) }
+/// Appends how many records there are, and the records, as a part of a record's own `write`. After a refusal some of
+/// them may stand there.
+pub fn write_many<T: Record>(alloc: Global, out: &mut Bytes, records: &[T]) -> Result<(), NoMemory>
+    requires count { length records.now < 2 ^ 63 }
+    requires each { AllByRecursion T.fits records.now }
+    ensures { OnOk result (out.new ≡ out.old ++ (varint (length records.now) ++ flat_map T.spelling records.now)) }
 {
+    put_varint(out, records.len() as u64)?;
     for value in records {
         value.write(alloc, out)?;
     }
@@ -110,8 +106,7 @@ pub fn put_frame<T: Record>(alloc: Global, out: &mut Bytes, value: &T) -> Result
     ensures ok { OnOk result (out.new ≡ out.old ++ varstring (T.spelling value.now)) }
     ensures err { OnErr result (out.new ≡ out.old) }
 {
-    let mut held = Bytes::new(alloc);
-    value.write(alloc, &mut held)?;
+    let held = encode(alloc, value)?;
     put_varstring(out, held.as_slice())
 }
 
