@@ -1,6 +1,5 @@
 -- Readers of one field.
-use Rattle.std.proofs.Common.{◌≡◌, ℕ, zero, suc, ◌+◌, ◌^◌, ◌≤◌, ◌<◌, Bool, true, false, cond, ltb, List, [], ◌∷◌, ◌++◌, length, take, drop, Ok, Err, refl, sym, ap, subst, ◌∙◌, inl, inr, arith}
-use Rattle.std.specs.Prelude.{◌⊎◌}
+use Rattle.std.proofs.Common.{◌≡◌, ℕ, ◌^◌, ◌≤◌, ◌<◌, Bool, true, false, cond, ltb, List, [], ◌∷◌, ◌++◌, length, take, drop, Ok, Err, refl, sym, ap, ◌∙◌, inl, inr, arith}
 use Rattle.std.proofs.lemmas.Bool.{lt-ltb, le-ltb, ltb-true, ltb-false}
 use Rattle.std.proofs.lemmas.List.{length-append, length-take, take-append-drop, take_at, drop_at}
 use Rattle.wire.specs.declared.fault.WireFault.{WireFault}
@@ -9,13 +8,13 @@ use Rattle.wire.specs.declared.fault.DataKind.{DataKind}
 use Rattle.wire.specs.declared.fault.DataKind.TheVariants.{Short, NotShortest, TooBig, Zero, Kind}
 use Rattle.wire.specs.Spelling.{AreBytes, varint, varstring}
 use Rattle.wire.specs.Reading.{Read, varint_at, varstring_at}
-use Rattle.wire.specs.Places.{Place, Fault, Reading, ◌>>=◌, kind_of, fault_here, moved, spelling_at, limited, number_at, raw_at, text_at, kind_behind, kind_at}
+use Rattle.wire.specs.Places.{Place, Reading, ◌>>=◌, kind_of, fault_here, moved, spelling_at, limited, number_at, raw_at, text_at, kind_behind, kind_at}
 use Rattle.wire.specs.Layout.{IsNumber}
-use Rattle.wire.specs.FirstFault.{Faults, FaultHere, BeginsWithNumber, NumberFault, RawFault, TextFault, KindFault}
-use Rattle.wire.specs.Readers.{Passes, FaultAt, Answers, fault_at, IsReader}
+use Rattle.wire.specs.FirstFault.{FaultHere, NumberFault, RawFault, TextFault, KindFault}
+use Rattle.wire.specs.Readers.{FaultAt, Answers, fault_at, IsReader}
 use Rattle.wire.proofs.NumberLaws.{varint_laws}
 use Rattle.wire.proofs.StringLaws.{varstring_laws}
-use Rattle.wire.proofs.Readers.{Passes-moved, moved-is, same_fault, done, failed}
+use Rattle.wire.proofs.Readers.{Passes-moved, moved-is, same_fault, done}
 
 -- what is said of a reader of one field: its faults stand at its first byte
 pub record IsFieldReader {X : Type 0} (fits : X → Type 0) (spell : X → List ℕ) (F : List ℕ → DataKind → Type 0) (read : Place → Reading X) : Type 0 where

@@ -1,16 +1,15 @@
 -- One reader for every layout, and what follows of its spellings.
-use Rattle.std.proofs.Common.{◌≡◌, ℕ, ◌+◌, ◌<◌, List, [], ◌∷◌, ◌++◌, length, Option, Result, Ok, Err, refl, sym, ap, subst, ◌∙◌, inl, inr, arith}
+use Rattle.std.proofs.Common.{◌≡◌, ℕ, List, ◌++◌, length, Option, Ok, Err, refl, sym, ap, subst}
 use Rattle.std.specs.List.{flat_map}
-use Rattle.wire.specs.declared.fault.DataKind.{DataKind}
-use Rattle.wire.specs.Spelling.{AreBytes, varint}
-use Rattle.wire.specs.Places.{Place, Fault, Reading, ◌>>=◌, mapped, start, whole_at, number_at, items_at, many_at, kinds_at}
-use Rattle.wire.specs.Layout.{Layout, Nothing, Number, Amount, Raw, Text, Then, Many, Kinds, Frame, Value, spelling, Fits, IsNumber, AreItems, read_at}
-use Rattle.wire.specs.FirstFault.{Faults, FaultHere, NumberFault, Either, BehindValue, ItemsFault, FirstFault, WholeFault}
-use Rattle.wire.specs.Readers.{Passes, FaultAt, Answers, fault_at, IsReader, WholeAnswers, IsWholeReader}
+use Rattle.wire.specs.Spelling.{varint}
+use Rattle.wire.specs.Places.{Place, Reading, ◌>>=◌, mapped, number_at, items_at, many_at}
+use Rattle.wire.specs.Layout.{Layout, Nothing, Number, Amount, Raw, Text, Then, Many, Kinds, Frame, spelling, Fits, IsNumber, AreItems, read_at}
+use Rattle.wire.specs.FirstFault.{Faults, FaultHere, NumberFault, Either, BehindValue, ItemsFault, FirstFault}
+use Rattle.wire.specs.Readers.{IsReader}
 use Rattle.wire.specs.LayoutLaws.{LayoutLaws}
 use Rattle.wire.proofs.Readers.{both_reader, nothing_reader}
 use Rattle.wire.specs.Records.{mapped_reader, same_reader}
-use Rattle.wire.proofs.ListReaders.{ItemsFit, IsItemsReader, items_reader, IsWithin-none}
+use Rattle.wire.proofs.ListReaders.{ItemsFit, items_reader, IsWithin-none}
 use Rattle.wire.proofs.FieldReaders.{number_reader, text_reader, raw_reader, kind_reader}
 use Rattle.wire.proofs.WholeReaders.{frame_reader}
 use Rattle.wire.proofs.SpellingLaws.{spelling_laws}

@@ -1,17 +1,16 @@
 -- Readers of so many of one kind.
-use Rattle.std.proofs.Common.{◌≡◌, ℕ, zero, suc, ◌+◌, ◌-◌, ◌≤◌, ◌<◌, Bool, true, false, cond, ltb, List, [], ◌∷◌, ◌++◌, length, Option, Some, None, Result, Ok, Err, refl, sym, ap, subst, ◌∙◌, inl, inr, arith}
-use Rattle.std.specs.Prelude.{◌⊎◌}
-use Rattle.std.specs.List.{flat_map, AllByRecursion}
+use Rattle.std.proofs.Common.{◌≡◌, ℕ, zero, suc, ◌+◌, ◌-◌, ◌≤◌, Bool, true, false, cond, List, [], ◌∷◌, ◌++◌, length, Option, Some, None, Ok, Err, refl, sym, ap, subst, ◌∙◌, inl, inr, arith}
+use Rattle.std.specs.List.{flat_map}
 use Rattle.std.proofs.lemmas.Bool.{lt-ltb, le-ltb, ltb-true, ltb-false}
 use Rattle.std.proofs.lemmas.List.{length-append}
 use Rattle.std.proofs.lemmas.List.Concat.{flat_map-cons}
 use Rattle.wire.specs.declared.fault.DataKind.{DataKind}
 use Rattle.wire.specs.declared.fault.DataKind.TheVariants.{TooBig}
 use Rattle.wire.specs.Spelling.{AreBytes}
-use Rattle.wire.specs.Places.{Place, Fault, Reading, ◌>>=◌, mapped, fault_here, passes_room, in_room, items_at}
+use Rattle.wire.specs.Places.{Place, Reading, ◌>>=◌, fault_here, passes_room, in_room, items_at}
 use Rattle.wire.specs.Layout.{IsWithin, AreItems}
-use Rattle.wire.specs.FirstFault.{Faults, FaultHere, FaultBehind, BehindValue, Either, RoomFault, PassesRoom, FitsRoom, ItemsFault}
-use Rattle.wire.specs.Readers.{Passes, FaultAt, Answers, fault_at, IsReader}
+use Rattle.wire.specs.FirstFault.{Faults, FaultHere, BehindValue, RoomFault, PassesRoom, FitsRoom, ItemsFault}
+use Rattle.wire.specs.Readers.{Passes, Answers, fault_at, IsReader}
 use Rattle.wire.proofs.Readers.{Passes-bytes, Passes-then, Passes-none, Passes-first, Passes-second, Passes-behind, behind, done, place_is, same_fault}
 
 -- ---- the room
@@ -74,9 +73,10 @@ module _ {X : Type 0} (fits : X → Type 0) (spell : X → List ℕ) (F : Faults
 
     tail_sound : (p : Place) (x : X × Place) → fits x.0 → Passes p (spell x.0) x.1 → IsWithin room (used + length (spell x.0)) → (r : Reading (List X))
         → Answers (ItemsFit n (used + length (spell x.0))) (flat_map spell) (ItemsFault fits spell F room n (used + length (spell x.0))) x.1 r → Whole p (pushed x.0 r)
-    tail_sound p x h m w (Ok xs) k =
-        ((ap suc k.0.0, record { each = (h, k.0.1.each); within = subst (λ (size : ℕ). IsWithin room size) (sym (size_of used x.0 xs.0)) k.0.1.within }),
-        subst (λ (front : List ℕ). Passes p front xs.1) (sym (flat_map-cons spell x.0 xs.0)) (Passes-then p (spell x.0) x.1 (flat_map spell xs.0) xs.1 m k.1))
+    tail_sound p x h m w (Ok xs) k = (
+      (ap suc k.0.0, record { each = (h, k.0.1.each); within = subst (λ (size : ℕ). IsWithin room size) (sym (size_of used x.0 xs.0)) k.0.1.within }),
+      subst (λ (front : List ℕ). Passes p front xs.1) (sym (flat_map-cons spell x.0 xs.0)) (Passes-then p (spell x.0) x.1 (flat_map spell xs.0) xs.1 m k.1),
+    )
     tail_sound p x h m w (Err f) k = record {
       off = length (spell x.0) + k.off;
       at = omega (arith, k.at, m.at);

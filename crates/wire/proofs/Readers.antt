@@ -1,18 +1,13 @@
 -- Readers made of readers, each of which is right where its parts are.
-use Rattle.std.proofs.Common.{◌≡◌, ℕ, zero, suc, ◌+◌, ◌-◌, ◌≤◌, ◌<◌, Bool, true, false, cond, eqb, ltb, List, [], ◌∷◌, ◌++◌, length, take, drop, Option, Some, None, Result, Ok, Err, refl, sym, ap, subst, ◌∙◌, append_assoc, inl, inr, arith}
-use Rattle.std.specs.Prelude.{◌⊎◌, OnOk}
-use Rattle.std.specs.List.{flat_map, AllByRecursion}
-use Rattle.std.proofs.lemmas.Bool.{lt-ltb, le-ltb, ltb-true, ltb-false, eqb-true, ne_eqb, eqb-false}
-use Rattle.std.proofs.lemmas.List.{length-append, append-nil, nil_from_length}
-use Rattle.std.proofs.lemmas.List.Concat.{flat_map-cons}
+use Rattle.std.proofs.Common.{◌≡◌, ℕ, suc, ◌+◌, ◌≤◌, List, [], ◌∷◌, ◌++◌, length, Result, Ok, Err, refl, sym, ap, subst, ◌∙◌, append_assoc, inl, inr, arith}
+use Rattle.std.specs.Prelude.{OnOk}
+use Rattle.std.proofs.lemmas.List.{length-append}
 use Rattle.wire.specs.declared.fault.DataKind.{DataKind}
-use Rattle.wire.specs.declared.fault.DataKind.TheVariants.{TooBig, Trailing}
 use Rattle.wire.specs.Spelling.{AreBytes}
 use Rattle.wire.specs.declared.fault.DataFault.{DataFault}
-use Rattle.wire.specs.Places.{Place, Fault, Reading, Reads, ◌>>=◌, fault_here, moved, passes_room, items_at, ended, whole_at}
-use Rattle.wire.specs.Layout.{IsWithin, AreItems}
-use Rattle.wire.specs.FirstFault.{Faults, FaultHere, FaultBehind, BehindValue, Either, NoFault, RoomFault, PassesRoom, FitsRoom, ItemsFault, Left, WholeFault}
-use Rattle.wire.specs.Readers.{Passes, FaultAt, Answers, fault_at, IsReader}
+use Rattle.wire.specs.Places.{Place, Fault, Reading, Reads, ◌>>=◌, moved}
+use Rattle.wire.specs.FirstFault.{Faults, BehindValue, Either, NoFault}
+use Rattle.wire.specs.Readers.{Passes, Answers, fault_at, IsReader}
 
 -- ---- places
 
@@ -86,7 +81,7 @@ same_fault f g at kind = ap (λ (c : Fault). refused c) (fault_is f g at kind)
 
 -- In what follows a second reader may depend on what the first has read.
 module _ {X : Type 0} {Y : X → Type 0} (fits1 : X → Type 0) (spell1 : X → List ℕ) (F1 : Faults) (read1 : Place → Reading X) (one : IsReader fits1 spell1 F1 read1)
-  (fits2 : (x : X) → Y x → Type 0) (spell2 : (x : X) → Y x → List ℕ) (F2 : X → Faults) (read2 : (x : X) → Place → Reading (Y x)) (two : (x : X) → fits1 x → IsReader (fits2 x) (spell2 x) (F2 x) (read2 x)) where
+    (fits2 : (x : X) → Y x → Type 0) (spell2 : (x : X) → Y x → List ℕ) (F2 : X → Faults) (read2 : (x : X) → Place → Reading (Y x)) (two : (x : X) → fits1 x → IsReader (fits2 x) (spell2 x) (F2 x) (read2 x)) where
   abbrev Both : (x : X) × Y x → Type 0
   Both v = fits1 v.0 × fits2 v.0 v.1
 

@@ -1,7 +1,6 @@
 -- What follows of the spellings that a reader reads.
-use Rattle.std.proofs.Common.{◌≡◌, ℕ, ◌+◌, List, [], ◌++◌, length, Result, Ok, Err, refl, sym, ap, subst, ◌∙◌, arith}
+use Rattle.std.proofs.Common.{◌≡◌, ℕ, ◌+◌, List, ◌++◌, length, Result, Ok, Err, refl, sym, ap, subst, ◌∙◌, arith}
 use Rattle.std.specs.Prelude.{IfOk}
-use Rattle.wire.specs.declared.fault.DataKind.{DataKind}
 use Rattle.wire.specs.Spelling.{AreBytes}
 use Rattle.wire.specs.declared.fault.DataFault.{DataFault}
 use Rattle.wire.specs.declared.fault.DataFault.TheVariants.{At}
@@ -90,7 +89,7 @@ module _ {X : Type 0} (fits : X → Type 0) (spell : X → List ℕ) (F : Faults
 -- ---- what a function of the code answered
 
 module _ {X : Type 0} (fits : X → Type 0) (spell : X → List ℕ) (F : Faults) (read : Place → Reading X) (one : IsReader fits spell F read)
-  (bytes : List ℕ) (b : AreBytes bytes) (r : Result X DataFault) (e : Gives r (whole_at read (start bytes))) where
+    (bytes : List ℕ) (b : AreBytes bytes) (r : Result X DataFault) (e : Gives r (whole_at read (start bytes))) where
   is_found : (s : Result X DataFault) → Gives s (whole_at read (start bytes)) → IfOk s (λ x. fits x × (bytes ≡ spell x))
   is_found (Ok x) h = subst (λ (reading : Result X Fault). ReadsAs fits spell F bytes reading) h (whole_reads fits spell F read one bytes b)
   is_found (Err d) h = tt

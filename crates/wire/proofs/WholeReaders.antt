@@ -1,6 +1,5 @@
 -- Readers of all of the bytes, and of a record behind its length.
-use Rattle.std.proofs.Common.{◌≡◌, ℕ, zero, suc, ◌+◌, ◌-◌, ◌≤◌, ◌<◌, Bool, true, false, cond, eqb, List, [], ◌∷◌, ◌++◌, length, take, drop, Result, Ok, Err, refl, sym, ap, subst, ◌∙◌, append_assoc, inl, inr, arith}
-use Rattle.std.specs.Prelude.{◌⊎◌}
+use Rattle.std.proofs.Common.{◌≡◌, ℕ, zero, suc, ◌+◌, ◌-◌, ◌≤◌, Bool, true, false, cond, eqb, List, [], ◌∷◌, ◌++◌, length, take, drop, Result, Ok, Err, refl, sym, ap, subst, ◌∙◌, append_assoc, inl, inr, arith}
 use Rattle.std.proofs.lemmas.Bool.{eqb-true, ne_eqb}
 use Rattle.std.proofs.lemmas.List.{append-nil, length-append, nil_from_length, take-append-drop}
 use Rattle.wire.specs.declared.fault.DataKind.{DataKind}
@@ -9,8 +8,8 @@ use Rattle.wire.specs.Spelling.{AreBytes, varint, varstring}
 use Rattle.wire.specs.Places.{Place, Fault, Reading, ◌>>=◌, fault_here, ended, whole_at, text_at, inside, frame_at}
 use Rattle.wire.specs.Layout.{IsNumber}
 use Rattle.wire.specs.FirstFault.{Faults, FaultHere, Either, Left, WholeFault, InFrame, TextFault}
-use Rattle.wire.specs.Readers.{Passes, FaultAt, Answers, fault_at, IsReader, WholeAnswers, IsWholeReader}
-use Rattle.wire.proofs.Readers.{Passes-bytes, Passes-behind, behind, same_fault, done}
+use Rattle.wire.specs.Readers.{Passes, Answers, fault_at, IsReader, WholeAnswers, IsWholeReader}
+use Rattle.wire.proofs.Readers.{Passes-behind, behind, same_fault}
 use Rattle.wire.proofs.FieldReaders.{text_reader}
 
 AreBytes-rest : (front rest : List ℕ) → AreBytes (front ++ rest) → AreBytes rest

@@ -1,11 +1,13 @@
 -- The first fault of bytes that begin with no spelling of a layout: all fields before it are spelled, and a kind's
 -- condition holds of the next. Its place is counted from the first of the bytes.
-use Rattle.std.specs.Prelude.{◌≡◌, ℕ, zero, suc, ◌+◌, ◌^◌, ◌≤◌, ◌<◌, ◌⊎◌, List, [], ◌∷◌, ◌++◌, length, Option, Some, None}
+use Rattle.std.specs.Prelude.{◌≡◌, ℕ, zero, suc, ◌+◌, ◌^◌, ◌≤◌, ◌<◌, ◌⊎◌, List, [], ◌∷◌, ◌++◌, length, Option, Some}
+use Rattle.std.specs.Prelude.{None}
 use Rattle.wire.specs.declared.fault.DataKind.{DataKind}
 use Rattle.wire.specs.declared.fault.DataKind.TheVariants.{Short, NotShortest, TooBig, Zero, Kind, Trailing}
 use Rattle.wire.specs.Spelling.{varint, varstring}
 use Rattle.wire.specs.Reading.{IsTooBig, IsShort, IsNotShortest, IsTooBigString, IsShortString}
-use Rattle.wire.specs.Layout.{Layout, Nothing, Number, Amount, Raw, Text, Then, Many, Kinds, Frame, Value, spelling, Fits, IsNumber, IsWithin}
+use Rattle.wire.specs.Layout.{Layout, Nothing, Number, Amount, Raw, Text, Then, Many, Kinds, Frame, spelling}
+use Rattle.wire.specs.Layout.{Fits, IsNumber, IsWithin}
 
 -- ---- fields
 
@@ -60,7 +62,8 @@ pub record FaultBehind (F : Faults) (front rest bytes : List ℕ) (at : ℕ) (ki
   pub further : at ≡ length front + place
 
 -- a value that fits is spelled at the front, and the fault stands behind it
-pub record BehindValue {X : Type 0} (fits : X → Type 0) (spell : X → List ℕ) (F : X → Faults) (bytes : List ℕ) (at : ℕ) (kind : DataKind) : Type 0 where
+pub record BehindValue {X : Type 0} (fits : X → Type 0) (spell : X → List ℕ) (F : X → Faults) (bytes : List ℕ)
+    (at : ℕ) (kind : DataKind) : Type 0 where
   pub value : X
   pub rest : List ℕ
   pub within : fits value
@@ -79,7 +82,8 @@ PassesRoom None size = ⊥
 PassesRoom (Some most) size = most < size
 
 -- a record that is whole and within its limits, and with which all of them take too many bytes
-pub record RoomFault {X : Type 0} (fits : X → Type 0) (spell : X → List ℕ) (room : Option ℕ) (used : ℕ) (bytes : List ℕ) (kind : DataKind) : Type 0 where
+pub record RoomFault {X : Type 0} (fits : X → Type 0) (spell : X → List ℕ) (room : Option ℕ) (used : ℕ)
+    (bytes : List ℕ) (kind : DataKind) : Type 0 where
   pub value : X
   pub rest : List ℕ
   pub within : fits value
@@ -91,19 +95,22 @@ pub record RoomFault {X : Type 0} (fits : X → Type 0) (spell : X → List ℕ)
 abbrev pub FitsRoom : {X : Type 0} → (X → Type 0) → (X → List ℕ) → Option ℕ → ℕ → X → Type 0
 FitsRoom fits spell room used x = fits x × IsWithin room (used + length (spell x))
 
--- The fault of so many records behind others that took so many bytes: that of the first one, or that the first one takes
+-- The fault of so many records behind others that took so many bytes: that of the first one, or that the first one
+-- takes
 -- too many, or a fault behind it.
 abbrev pub ItemsFault : {X : Type 0} → (X → Type 0) → (X → List ℕ) → Faults → Option ℕ → (n used : ℕ) → Faults
 ItemsFault fits spell each room zero used = NoFault
 ItemsFault fits spell each room (suc n) used =
     Either each
     (Either (FaultHere (RoomFault fits spell room used))
-    (BehindValue (FitsRoom fits spell room used) spell (λ x. ItemsFault fits spell each room n (used + length (spell x)))))
+    (BehindValue (FitsRoom fits spell room used) spell
+    (λ x. ItemsFault fits spell each room n (used + length (spell x)))))
 
 -- ---- wholes
 
 -- a byte behind all that is spelled
-pub record Left {X : Type 0} (fits : X → Type 0) (spell : X → List ℕ) (bytes : List ℕ) (at : ℕ) (kind : DataKind) : Type 0 where
+pub record Left {X : Type 0} (fits : X → Type 0) (spell : X → List ℕ) (bytes : List ℕ) (at : ℕ) (kind : DataKind)
+    : Type 0 where
   pub value : X
   pub first : ℕ
   pub rest : List ℕ

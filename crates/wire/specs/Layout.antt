@@ -1,5 +1,6 @@
 -- What a record is made of, as data; which values it has, how each is spelled, and which are within the limits.
-use Rattle.std.specs.Prelude.{◌≡◌, ℕ, zero, suc, ◌+◌, ◌^◌, ◌≤◌, ◌<◌, List, [], ◌∷◌, ◌++◌, length, Option, Some, None, Ok}
+use Rattle.std.specs.Prelude.{◌≡◌, ℕ, zero, suc, ◌+◌, ◌^◌, ◌≤◌, ◌<◌, List, [], ◌∷◌, ◌++◌, length, Option, Some, None}
+use Rattle.std.specs.Prelude.{Ok}
 use Rattle.std.specs.List.{flat_map, AllByRecursion}
 use Rattle.wire.specs.Spelling.{varint, varstring}
 use Rattle.wire.specs.Places.{Place, Reading, then_at, number_at, raw_at, text_at, kinds_at, many_at, frame_at}
@@ -73,7 +74,8 @@ pub record IsNumber (least most n : ℕ) : Type 0 where
   pub spelled : n < 2 ^ 63
 
 -- so many records, each within its limits and all within the room
-pub record AreItems {X : Type 0} (fits : X → Type 0) (spell : X → List ℕ) (room : Option ℕ) (used : ℕ) (xs : List X) : Type 0 where
+pub record AreItems {X : Type 0} (fits : X → Type 0) (spell : X → List ℕ) (room : Option ℕ) (used : ℕ) (xs : List X)
+    : Type 0 where
   pub each : AllByRecursion fits xs
   pub within : IsWithin room (used + length (flat_map spell xs))
 

@@ -21,16 +21,16 @@ pub record SpellingLaws {X : Type 0} (fits : X → Type 0) (spell : X → List �
   pub begins : (bytes : List ℕ) → AreBytes bytes → (r : Result (X × List ℕ) Fault) × BeginsAs fits spell F bytes r
   -- and with one thing
   pub one_beginning : (bytes : List ℕ) (r s : Result (X × List ℕ) Fault) → AreBytes bytes
-    → BeginsAs fits spell F bytes r
-    → BeginsAs fits spell F bytes s
-    → r ≡ s
+      → BeginsAs fits spell F bytes r
+      → BeginsAs fits spell F bytes s
+      → r ≡ s
   -- all bytes read as something
   pub reads : (bytes : List ℕ) → AreBytes bytes → (r : Result X Fault) × ReadsAs fits spell F bytes r
   -- and as one thing
   pub one_reading : (bytes : List ℕ) (r s : Result X Fault) → AreBytes bytes
-    → ReadsAs fits spell F bytes r
-    → ReadsAs fits spell F bytes s
-    → r ≡ s
+      → ReadsAs fits spell F bytes r
+      → ReadsAs fits spell F bytes s
+      → r ≡ s
   -- two spellings of two values are different, and none begins another
   pub one_form : (v w : X) (x y : List ℕ) → fits v → fits w → spell v ++ x ≡ spell w ++ y → (v ≡ w) × (x ≡ y)
 

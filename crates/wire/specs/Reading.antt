@@ -1,5 +1,7 @@
 -- Reading a spelling at the front of bytes, and the first thing that is wrong with it.
-use Rattle.std.specs.Prelude.{◌≡◌, ℕ, zero, suc, ◌+◌, ◌-◌, ◌*◌, ◌≤◌, ◌<◌, List, [], ◌∷◌, length, take, drop, slice_index, slice_get, Some, Result, Ok, Err, nat_lt, ◌==◌, if◌then◌else◌, ◌⊎◌, ◌^◌, ◌++◌}
+use Rattle.std.specs.Prelude.{◌≡◌, ℕ, zero, suc, ◌+◌, ◌-◌, ◌*◌, ◌≤◌, ◌<◌, List, [], ◌∷◌, length, take, drop}
+use Rattle.std.specs.Prelude.{slice_index, slice_get, Some, Result, Ok, Err, nat_lt, ◌==◌, if◌then◌else◌, ◌⊎◌, ◌^◌}
+use Rattle.std.specs.Prelude.{◌++◌}
 use Rattle.wire.specs.declared.fault.WireFault.{WireFault}
 use Rattle.wire.specs.declared.fault.WireFault.TheVariants.{Short, NotShortest, TooBig}
 use Rattle.wire.specs.Spelling.{varint}
@@ -55,8 +57,10 @@ IsNotShortest bytes = (n : ℕ) × (0 < n) × (n < 9) × HighFront n bytes × (s
 
 -- a length that is too big for any number, or one that passes the most
 abbrev pub IsTooBigString : ℕ → List ℕ → Type 0
-IsTooBigString most bytes = IsTooBig bytes ⊎ ((n : ℕ) × (rest : List ℕ) × (bytes ≡ varint n ++ rest) × (n < 2 ^ 63) × (most < n))
+IsTooBigString most bytes = IsTooBig bytes
+    ⊎ ((n : ℕ) × (rest : List ℕ) × (bytes ≡ varint n ++ rest) × (n < 2 ^ 63) × (most < n))
 
 -- a length that is cut short, or one of at most the most with fewer bytes behind it
 abbrev pub IsShortString : ℕ → List ℕ → Type 0
-IsShortString most bytes = IsShort bytes ⊎ ((n : ℕ) × (rest : List ℕ) × (bytes ≡ varint n ++ rest) × (n < 2 ^ 63) × (n ≤ most) × (length rest < n))
+IsShortString most bytes = IsShort bytes
+    ⊎ ((n : ℕ) × (rest : List ℕ) × (bytes ≡ varint n ++ rest) × (n < 2 ^ 63) × (n ≤ most) × (length rest < n))

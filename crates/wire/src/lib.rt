@@ -16,8 +16,8 @@ pub use fault::{DataFault, DataKind, WireFault};
 pub use laws::{layout_readings, spellings};
 pub use listed::{Args, Bytes, Listed, Twin};
 pub use memory::NoMemory;
-pub use record::{Record, decode, encode, put, put_frame, write_many};
 pub use numbers::{put_varint, take_varint};
+pub use record::{Record, decode, encode, put, put_frame, write_many};
 pub use strings::{put_varstring, take_varstring};
 
 /// The name of an entry or an asset: 32 raw bytes.

@@ -141,7 +141,12 @@ impl Record for Bytes {
 impl<'a> Cursor<'a> {
     /// A count of at most this value, and so many records. Where there is a room, they may take so many bytes together:
     /// the one that passes it is refused at its first byte, unless it has a fault of its own.
-    pub fn many<T: Record>(&mut self, alloc: Global, most: u64, room: Option<u64>) -> Result<Listed<T>, DataFault>
+    pub fn many<T: Record>(
+        &mut self,
+        alloc: Global,
+        most: u64,
+        room: Option<u64>,
+    ) -> Result<Listed<T>, DataFault>
         ensures { Reads result self.new (many_at most room T.reading self.old) }
     {
         let count = self.number(most)?;
@@ -157,7 +162,12 @@ impl<'a> Cursor<'a> {
     }
 
     // So many records.
-    fn items<T: Record>(&mut self, alloc: Global, count: u64, room: Option<u64>) -> Result<Listed<T>, DataFault>
+    fn items<T: Record>(
+        &mut self,
+        alloc: Global,
+        count: u64,
+        room: Option<u64>,
+    ) -> Result<Listed<T>, DataFault>
         ensures { Reads result self.new (items_at room T.reading count 0 self.old) }
     {
         let mut items = Listed::new(alloc);
@@ -169,15 +179,23 @@ impl<'a> Cursor<'a> {
     }
 
     // One more record of those that began at this byte.
-    fn item<T: Record>(&mut self, alloc: Global, room: Option<u64>, from: u64) -> Result<T, DataFault>
+    fn item<T: Record>(
+        &mut self,
+        alloc: Global,
+        room: Option<u64>,
+        from: u64,
+    ) -> Result<T, DataFault>
         requires { from ≤ self.old.at }
         ensures read { Reads result self.new (item_at room T.reading (self.old.at - from) self.old) }
         ensures on { OnOk result (self.old.at ≤ self.new.at) }
     {
-        let too_big = self.fault(DataKind::TooBig);
+        let at = self.at();
         let item = self.record(alloc)?;
         if passes_room(room, self.at() - from) {
-            return Err(too_big);
+            return Err(DataFault::At {
+                at,
+                kind: DataKind::TooBig,
+            });
         }
         Ok(item)
     }

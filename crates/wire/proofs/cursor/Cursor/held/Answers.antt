@@ -1,4 +1,4 @@
-use Rattle.std.proofs.Common.{◌≡◌, ◌+◌, ◌-◌, length, drop, ap, ◌∙◌, arith}
+use Rattle.std.proofs.Common.{◌-◌, length, drop, ap, ◌∙◌, arith}
 use Rattle.wire.specs.Places.{Place}
 use Rattle.wire.proofs.WholeReaders.{text_within}
 use Rattle.wire.proofs.cursor.Cursor.held.Goals as goal

@@ -1,4 +1,4 @@
-use Rattle.std.proofs.Common.{subst, List, ℕ}
+use Rattle.std.proofs.Common.{subst}
 use Rattle.wire.specs.Spelling.{AreBytes}
 use Rattle.wire.proofs.Readers.{goes_forward}
 use Rattle.wire.proofs.cursor.Cursor.record.Goals as goal
