@@ -34,7 +34,7 @@ entry_same p = kinds_same (λ k. read_at (entry_kinds k)) entry_of entry_behind 
 pub entry_reader : LayoutLaws → IsReader EntryFits entry_spelling (FirstFault entry_layout) entry_at
 entry_reader laws =
     same_reader _ _ _ _ _ entry_same
-    (record_reader entry_layout entry_made entry_parts (record { again = entry_again; kept = λ v h. entry_kept v.0 v.1 h.0 }) (laws.reader entry_layout))
+    (record_reader entry_layout entry_made entry_parts (record { again = λ entry h. entry_again entry; kept = λ v h. entry_kept v.0 v.1 h.0 }) (laws.reader entry_layout))
 
 -- ---- pages
 
@@ -61,7 +61,7 @@ page_reader laws =
     same_reader _ _ _ _ _ page_same
     (record_reader page_layout page_made page_parts
     (record {
-      again = λ page. ap (λ (xs : List Entry). page_of (xs, page.last)) (entries_again page.entries);
+      again = λ page h. ap (λ (xs : List Entry). page_of (xs, page.last)) (entries_again page.entries);
       kept = λ v h. ap (λ (vs : List (Value entry_layout)). (vs, v.1)) (entries_kept v.0 h.0.1.each);
     })
     (laws.reader page_layout))

@@ -2,6 +2,5 @@
 #![tactic(auto)]
 
 pub mod page;
-
 #[cfg(test)]
 mod wire_calls;

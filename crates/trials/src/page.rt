@@ -2,8 +2,11 @@
 //! frame. An entry is a mark, or a note.
 ghost use Rattle.std.specs.Prelude.{◌≡◌};
 
-use wire::{Bytes, Cursor, DataFault, Id, Listed, NoMemory, Record, layout_readings, put_frame, put_varint, put_varstring, write_many};
 use std::alloc::Global;
+use wire::{
+    Bytes, Cursor, DataFault, Id, Listed, NoMemory, Record, layout_readings, put_frame, put_varint,
+    put_varstring, write_many,
+};
 
 /// An amount and a text.
 #[derive(Debug, Drop)]

@@ -12,6 +12,7 @@ use Rattle.wire.specs.Records.{mapped_reader, same_reader}
 use Rattle.wire.proofs.ListReaders.{ItemsFit, items_reader, IsWithin-none}
 use Rattle.wire.proofs.FieldReaders.{number_reader, text_reader, raw_reader, kind_reader}
 use Rattle.wire.proofs.WholeReaders.{frame_reader}
+use Rattle.wire.proofs.FaultPlaces.{fault_within, all_within}
 use Rattle.wire.proofs.SpellingLaws.{spelling_laws}
 
 -- ---- a count, and so many
@@ -69,4 +70,6 @@ pub layout_laws : LayoutLaws
 layout_laws = record {
   spellings = λ layout. spelling_laws (Fits layout) (spelling layout) (FirstFault layout) (read_at layout) (reader layout);
   reader = reader;
+  within = fault_within;
+  all_within = all_within;
 }

@@ -10,3 +10,4 @@ pub mod WholeReaders
 pub mod LayoutReaders
 pub mod SpellingLaws
 pub mod Loop
+pub mod FaultPlaces

@@ -96,8 +96,7 @@ abbrev pub FitsRoom : {X : Type 0} → (X → Type 0) → (X → List ℕ) → O
 FitsRoom fits spell room used x = fits x × IsWithin room (used + length (spell x))
 
 -- The fault of so many records behind others that took so many bytes: that of the first one, or that the first one
--- takes
--- too many, or a fault behind it.
+-- takes too many, or a fault behind it.
 abbrev pub ItemsFault : {X : Type 0} → (X → Type 0) → (X → List ℕ) → Faults → Option ℕ → (n used : ℕ) → Faults
 ItemsFault fits spell each room zero used = NoFault
 ItemsFault fits spell each room (suc n) used =

@@ -1,9 +1,10 @@
 -- What holds of all layouts, and of each record that is one.
-use Rattle.std.specs.Prelude.{◌≡◌, ℕ, List, ◌++◌, Result, Ok, Err}
+use Rattle.std.specs.Prelude.{◌≡◌, ◌≤◌, ℕ, List, ◌++◌, length, Result, Ok, Err}
+use Rattle.wire.specs.declared.fault.DataKind.{DataKind}
 use Rattle.wire.specs.Spelling.{AreBytes}
 use Rattle.wire.specs.Places.{Fault}
 use Rattle.wire.specs.Layout.{Layout, spelling, Fits, read_at}
-use Rattle.wire.specs.FirstFault.{Faults, WholeFault, FirstFault}
+use Rattle.wire.specs.FirstFault.{Faults, WholeFault, FirstFault, FirstFaultOfAll}
 use Rattle.wire.specs.Readers.{IsReader}
 
 -- what bytes begin with: the spelling of a value that fits, and some rest, or a first fault
@@ -38,3 +39,9 @@ pub record LayoutLaws : Type 0 where
   pub spellings : (layout : Layout) → SpellingLaws (Fits layout) (spelling layout) (FirstFault layout)
   -- one reader reads every layout, from every place, and tells its first fault
   pub reader : (layout : Layout) → IsReader (Fits layout) (spelling layout) (FirstFault layout) (read_at layout)
+  -- a fault stands at one of the bytes, or at their end
+  pub within : (layout : Layout) (bytes : List ℕ) (at : ℕ) (kind : DataKind) → FirstFault layout bytes at kind
+    → at ≤ length bytes
+  pub all_within : (layout : Layout) (bytes : List ℕ) (at : ℕ) (kind : DataKind)
+    → FirstFaultOfAll layout bytes at kind
+    → at ≤ length bytes

@@ -61,7 +61,7 @@ same_reader {X} fits spell F read other same r = record {
 
 -- the parts of a record, in order, and the record that is made of them
 pub record HasParts {B : Type 0} (layout : Layout) (made : Value layout → B) (parts : B → Value layout) : Type 0 where
-  pub again : (b : B) → made (parts b) ≡ b
+  pub again : (b : B) → Fits layout (parts b) → made (parts b) ≡ b
   pub kept : (v : Value layout) → Fits layout v → parts (made v) ≡ v
 
 module _ {B : Type 0} (layout : Layout) (made : Value layout → B) (parts : B → Value layout)
@@ -76,7 +76,7 @@ module _ {B : Type 0} (layout : Layout) (made : Value layout → B) (parts : B �
       mapped_reader _ _ _ _ _ _ made
       (record {
         there = λ v h. subst (λ (w : Value layout). IsSame v w) (sym (has.kept v h)) (h, refl);
-        back = λ b h. (parts b, h, has.again b, refl);
+        back = λ b h. (parts b, h, has.again b h, refl);
       })
       r
 

@@ -5,4 +5,4 @@ use Rattle.trials.proofs.page.NoteRecord.readings.Goals as goal
 
 pub returns : goal.returns
 returns c =
-    record_reader note_layout note_made note_parts (record { again = λ note. refl; kept = λ v h. refl }) (c.layout_readings.ensures.reader note_layout)
+    record_reader note_layout note_made note_parts (record { again = λ note h. refl; kept = λ v h. refl }) (c.layout_readings.ensures.reader note_layout)
