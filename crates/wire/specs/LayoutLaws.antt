@@ -41,7 +41,7 @@ pub record LayoutLaws : Type 0 where
   pub reader : (layout : Layout) → IsReader (Fits layout) (spelling layout) (FirstFault layout) (read_at layout)
   -- a fault stands at one of the bytes, or at their end
   pub within : (layout : Layout) (bytes : List ℕ) (at : ℕ) (kind : DataKind) → FirstFault layout bytes at kind
-    → at ≤ length bytes
+      → at ≤ length bytes
   pub all_within : (layout : Layout) (bytes : List ℕ) (at : ℕ) (kind : DataKind)
-    → FirstFaultOfAll layout bytes at kind
-    → at ≤ length bytes
+      → FirstFaultOfAll layout bytes at kind
+      → at ≤ length bytes

@@ -2,16 +2,17 @@
 use Rattle.std.specs.Prelude.{◌≡◌, ◌==◌, ◌+◌, ◌-◌, ℕ, zero, suc, Bool, true, false, cond, List, [], ◌∷◌, ◌++◌, map}
 use Rattle.std.specs.Prelude.{length, Option, Ok, Err, refl}
 use Rattle.std.specs.List.{flat_map, AllByRecursion}
-use Rattle.std.proofs.Common.{sym, ap, subst, ◌∙◌}
+use Rattle.std.proofs.Common.{sym, ap, subst, ◌∙◌, inl, inr}
 use Rattle.std.proofs.lemmas.List.Concat.{flat_map-cons}
 use Rattle.std.proofs.lemmas.List.{length-map}
 use Rattle.wire.specs.Spelling.{varint}
+use Rattle.wire.specs.declared.fault.DataKind.{DataKind}
 use Rattle.wire.specs.declared.fault.DataKind.TheVariants.{TooBig, Trailing}
 use Rattle.wire.specs.Places.{Place, Reading, ◌>>=◌, mapped, then_at, kind_at, kinds_at, fault_here}
 use Rattle.wire.specs.Places.{passes_room, in_room, items_at, many_at, number_at}
 use Rattle.wire.specs.Places.{ended, whole_at, text_at, inside, frame_at}
 use Rattle.wire.specs.Layout.{Layout, Value, spelling, Fits, read_at}
-use Rattle.wire.specs.FirstFault.{Faults, FirstFault}
+use Rattle.wire.specs.FirstFault.{Faults, WholeFault, FirstFault}
 use Rattle.wire.specs.Readers.{Passes, Answers, IsReader}
 
 -- ---- one reader from another
@@ -46,6 +47,39 @@ module _ {A B : Type 0} (fitsA : A → Type 0) (spellA : A → List ℕ) (fitsB 
     told = λ p off kind fits h. ap (λ (answer : Reading A). mapped to answer) (r.told p off kind fits h);
   }
 
+  -- what is left behind the one is left behind the other
+  pub left_there : StandFor fitsA spellA fitsB spellB to → (bytes : List ℕ) (at : ℕ) (kind : DataKind)
+      → WholeFault fitsA spellA F bytes at kind
+      → WholeFault fitsB spellB F bytes at kind
+  left_there stand bytes at why (inl h) = inl h
+  left_there stand bytes at why (inr h) =
+      let b = stand.there h.value h.within in
+      inr (record {
+        value = to h.value;
+        first = h.first;
+        rest = h.rest;
+        within = b.0;
+        spelled = h.spelled ∙ ap (λ (front : List ℕ). front ++ h.first ∷ h.rest) b.1;
+        at_end = h.at_end ∙ ap (λ (front : List ℕ). length front) b.1;
+        kind_is = h.kind_is;
+      })
+
+  pub left_back : StandFor fitsA spellA fitsB spellB to → (bytes : List ℕ) (at : ℕ) (kind : DataKind)
+      → WholeFault fitsB spellB F bytes at kind
+      → WholeFault fitsA spellA F bytes at kind
+  left_back stand bytes at why (inl h) = inl h
+  left_back stand bytes at why (inr h) =
+      let a = stand.back h.value h.within in
+      inr (record {
+        value = a.0;
+        first = h.first;
+        rest = h.rest;
+        within = a.1;
+        spelled = h.spelled ∙ ap (λ (front : List ℕ). front ++ h.first ∷ h.rest) a.3;
+        at_end = h.at_end ∙ ap (λ (front : List ℕ). length front) a.3;
+        kind_is = h.kind_is;
+      })
+
 -- the same reader, written in another way
 pub same_reader : {X : Type 0} (fits : X → Type 0) (spell : X → List ℕ) (F : Faults) (read other : Place → Reading X)
     → ((p : Place) → read p ≡ other p)
@@ -69,15 +103,19 @@ module _ {B : Type 0} (layout : Layout) (made : Value layout → B) (parts : B �
   abbrev IsSame : Value layout → Value layout → Type 0
   IsSame v w = Fits layout w × (spelling layout v ≡ spelling layout w)
 
+  pub parts_stand : StandFor (Fits layout) (spelling layout) (λ b. Fits layout (parts b))
+      (λ b. spelling layout (parts b)) made
+  parts_stand = record {
+    there = λ v h. subst (λ (w : Value layout). IsSame v w) (sym (has.kept v h)) (h, refl);
+    back = λ b h. (parts b, h, has.again b h, refl);
+  }
+
   pub record_reader : IsReader (Fits layout) (spelling layout) (FirstFault layout) (read_at layout)
       → IsReader (λ b. Fits layout (parts b)) (λ b. spelling layout (parts b)) (FirstFault layout)
       (λ p. mapped made (read_at layout p))
   record_reader r =
       mapped_reader _ _ _ _ _ _ made
-      (record {
-        there = λ v h. subst (λ (w : Value layout). IsSame v w) (sym (has.kept v h)) (h, refl);
-        back = λ b h. (parts b, h, has.again b h, refl);
-      })
+      parts_stand
       r
 
 -- ---- lists and frames of records

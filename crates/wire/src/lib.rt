@@ -17,7 +17,7 @@ pub use laws::{layout_readings, spellings};
 pub use listed::{Args, Bytes, Listed, Twin};
 pub use memory::NoMemory;
 pub use numbers::{put_varint, take_varint};
-pub use record::{Record, decode, encode, put, put_frame, write_many};
+pub use record::{Record, decode, encode, put, put_frame, record_readings, write_many};
 pub use strings::{put_varstring, take_varstring};
 
 /// The name of an entry or an asset: 32 raw bytes.

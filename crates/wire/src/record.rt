@@ -5,7 +5,8 @@ ghost use Rattle.wire.specs.Spelling.{varint, varstring};
 ghost use Rattle.wire.specs.Places.{Place, Fault, Reading, Reads, Gives, start, passes_room, item_at, items_at, many_at, whole_at, frame_at};
 ghost use Rattle.wire.specs.Layout.{IsNumber};
 ghost use Rattle.wire.specs.FirstFault.{Faults, WholeFault};
-ghost use Rattle.wire.specs.Readers.{IsReader};
+ghost use Rattle.wire.specs.Readers.{IsReader, IsWholeReader};
+ghost use Rattle.wire.specs.LayoutLaws.{SpellingLaws};
 
 use crate::{Bytes, Cursor, DataFault, DataKind, Listed, NoMemory, put_varint, put_varstring};
 use std::alloc::Global;
@@ -33,6 +34,16 @@ pub trait Record: Drop + Sized {
     /// first fault. It does nothing when it runs.
     fn readings()
         ensures { IsReader fits spelling faults reading };
+}
+
+/// The laws of a record, for the proofs of crates above: all bytes begin with the spelling of one value or have one first
+/// fault at one place, no spelling begins another, and one reading is that of all of the bytes. It does nothing when it
+/// runs.
+pub fn record_readings<T: Record>()
+    ensures spellings { SpellingLaws T.fits T.spelling T.faults }
+    ensures whole { IsWholeReader T.fits T.spelling T.faults (whole_at T.reading) }
+{
+    T::readings();
 }
 
 /// The record that the bytes spell, all of the bytes.
