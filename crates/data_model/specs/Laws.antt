@@ -3,7 +3,8 @@ use Rattle.std.specs.Prelude.{◌≡◌, ℕ, ◌↔◌, ◌++◌, List, Ok, Err
 use Rattle.wire.specs.Spelling.{AreBytes}
 use Rattle.data_model.specs.declared.header.Header.{Header}
 use Rattle.data_model.specs.declared.block.Block.{Block}
-use Rattle.data_model.specs.Layout.{FirstFault, block_layout}
+use Rattle.wire.specs.FirstFault.{FirstFaultOfAll}
+use Rattle.data_model.specs.Layout.{block_layout}
 use Rattle.data_model.specs.Spelling.{IsHeader, IsBlock, header_spelling, block_spelling}
 use Rattle.data_model.specs.Reading.{Fault, block_at}
 
@@ -17,6 +18,6 @@ pub record BlockLaws : Type 0 where
   -- no header's spelling begins another's
   pub one_header : (a b : Header) (x y : List ℕ) → IsHeader a → IsHeader b → header_spelling a ++ x ≡ header_spelling b ++ y → (a ≡ b) × (x ≡ y)
   -- what is told of other bytes is their first fault
-  pub fault : (bytes : List ℕ) (f : Fault) → AreBytes bytes → (block_at bytes ≡ Err f) ↔ FirstFault block_layout bytes f.at f.kind
+  pub fault : (bytes : List ℕ) (f : Fault) → AreBytes bytes → (block_at bytes ≡ Err f) ↔ FirstFaultOfAll block_layout bytes f.at f.kind
   -- bytes have at most one first fault
-  pub one_fault : (bytes : List ℕ) (f g : Fault) → AreBytes bytes → FirstFault block_layout bytes f.at f.kind → FirstFault block_layout bytes g.at g.kind → f ≡ g
+  pub one_fault : (bytes : List ℕ) (f g : Fault) → AreBytes bytes → FirstFaultOfAll block_layout bytes f.at f.kind → FirstFaultOfAll block_layout bytes g.at g.kind → f ≡ g

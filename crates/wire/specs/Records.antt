@@ -47,6 +47,8 @@ module _ {A B : Type 0} (fitsA : A → Type 0) (spellA : A → List ℕ) (fitsB 
     told = λ p off kind fits h. ap (λ (answer : Reading A). mapped to answer) (r.told p off kind fits h);
   }
 
+module _ {A B : Type 0} (fitsA : A → Type 0) (spellA : A → List ℕ) (fitsB : B → Type 0) (spellB : B → List ℕ)
+    (F : Faults) (to : A → B) where
   -- what is left behind the one is left behind the other
   pub left_there : StandFor fitsA spellA fitsB spellB to → (bytes : List ℕ) (at : ℕ) (kind : DataKind)
       → WholeFault fitsA spellA F bytes at kind
