@@ -4,10 +4,12 @@ use Rattle.std.specs.List.{flat_map, AllByRecursion}
 use Rattle.wire.specs.Spelling.{AreBytes, varint, varstring}
 use Rattle.wire.specs.Reading.{Read, varstring_at, IsTooBigString, IsNotShortest, IsShortString}
 use Rattle.data_model.specs.declared.block.Block.{Block}
-use Rattle.data_model.specs.declared.fault.DataKind.{DataKind}
-use Rattle.data_model.specs.declared.fault.DataKind.TheVariants.{Short, NotShortest, TooBig, Zero, Kind, Trailing, Count}
-use Rattle.data_model.specs.declared.fault.DataFault.{DataFault}
-use Rattle.data_model.specs.Layout.{FirstFault, block_layout, kind_of}
+use Rattle.wire.specs.declared.fault.DataKind.{DataKind}
+use Rattle.wire.specs.declared.fault.DataKind.TheVariants.{Short, NotShortest, TooBig, Zero, Kind, Trailing, Count}
+use Rattle.wire.specs.declared.fault.DataFault.{DataFault}
+use Rattle.wire.specs.FirstFault.{FirstFaultOfAll}
+use Rattle.wire.specs.Places.{kind_of}
+use Rattle.data_model.specs.Layout.{block_layout}
 use Rattle.data_model.specs.Spelling.{IsBlock, block_spelling}
 use Rattle.data_model.specs.Reading.{Fault, Fails, block_at}
 use Rattle.chain_top.specs.declared.frames.FramesFault.{FramesFault}
@@ -52,7 +54,7 @@ pub data FrameFault (bytes : List ℕ) : ℕ → DataKind → Type 0 where
   -- its length is above the limit
   too_big : IsTooBigString longest_frame bytes → FrameFault bytes 0 TooBig
   -- its bytes are there, and spell no block
-  in_block : (held rest : List ℕ) {place at : ℕ} {kind : DataKind} → length held ≤ longest_frame → bytes ≡ varstring held ++ rest → FirstFault block_layout held place kind → at ≡ length (varint (length held)) + place → FrameFault bytes at kind
+  in_block : (held rest : List ℕ) {place at : ℕ} {kind : DataKind} → length held ≤ longest_frame → bytes ≡ varstring held ++ rest → FirstFaultOfAll block_layout held place kind → at ≡ length (varint (length held)) + place → FrameFault bytes at kind
 
 -- Some whole frames stand at the front of the bytes, and what follows is not empty and begins with no whole frame.
 pub record FirstFileFault (bytes : List ℕ) (fault : FileFault) : Type 0 where

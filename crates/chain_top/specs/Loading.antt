@@ -2,7 +2,7 @@
 use Rattle.std.specs.Prelude.{◌≡◌, ℕ, ◌<◌, ◌≤◌, Bool, false, List, [], ◌∷◌, ◌++◌, length, Some, None, Result, Ok, Err, nat_lt}
 use Rattle.std.specs.List.{list_all}
 use Rattle.data_model.specs.declared.block.Block.{Block}
-use Rattle.data_model.specs.declared.fault.DataKind.TheVariants.{Count}
+use Rattle.wire.specs.declared.fault.DataKind.TheVariants.{Count}
 use Rattle.vm_run.specs.Row.{Check}
 use Rattle.wire.specs.Spelling.{AreBytes}
 use Rattle.ledger_core.specs.declared.refusal.BlockRefusal.{BlockRefusal}

@@ -38,8 +38,8 @@ header_fits header h =
 
 header_stand : StandFor (Fits header_layout) (spelling header_layout) IsHeader header_spelling header_made
 header_stand = record {
-  there = λ v h.
-    (record {
+  there = λ v h. (
+    record {
       version = h.0.spelled;
       height = h.1.0.spelled;
       previous = h.1.1.0;
@@ -48,10 +48,14 @@ header_stand = record {
       unspent_root = h.1.1.1.1.1.0;
       next_program = h.1.1.1.1.1.1.at_most;
     },
-    header_spelled (header_made v));
-  back = λ header h.
-    (header_parts header, header_fits header h, refl,
-    sym (header_spelled header));
+    header_spelled (header_made v),
+  );
+  back = λ header h. (
+    header_parts header,
+    header_fits header h,
+    refl,
+    sym (header_spelled header),
+  );
 }
 
 pub header_reader : LayoutLaws → IsReader IsHeader header_spelling (FirstFault header_layout) header_at
@@ -89,18 +93,20 @@ no_txs block h =
 
 block_stand : StandFor (Fits block_layout) (spelling block_layout) IsBlock block_spelling block_made
 block_stand = record {
-  there = λ v h.
-    (record {
+  there = λ v h. (
+    record {
       header = (header_stand.there v.0 h.0).0;
       args = (h.1.0.0.at_most, strings_are v.1.0 h.1.0.1.each);
       txs = omega arith;
     },
-    ap (spelling block_layout) (sym (none_kept v h)) ∙ block_spelled (block_made v));
-  back = λ block h.
-    (block_parts block,
+    ap (spelling block_layout) (sym (none_kept v h)) ∙ block_spelled (block_made v),
+  );
+  back = λ block h. (
+    block_parts block,
     (header_fits block.header h.header, (are_args block.args h.args, record { least_at_most = omega arith; at_most = h.txs; spelled = omega (arith, h.txs) })),
     no_txs block h.txs,
-    sym (block_spelled block));
+    sym (block_spelled block),
+  );
 }
 
 mapped-same : {A : Type 0} (r : Reading A) → mapped (λ x. x) r ≡ r
@@ -133,8 +139,7 @@ same_given a b e = cc
 same_refused : (f g : Fault) → refused f ≡ refused g → f ≡ g
 same_refused f g e = cc
 
-
-module _ (headers : SpellingLaws IsHeader header_spelling (FirstFault header_layout)) (blocks : IsWholeReader IsBlock block_spelling (FirstFault block_layout) (whole_at next_block_at)) where
+module _ (layouts : LayoutLaws) (headers : SpellingLaws IsHeader header_spelling (FirstFault header_layout)) (blocks : IsWholeReader IsBlock block_spelling (FirstFault block_layout) (whole_at next_block_at)) where
   block_fault : (bytes : List ℕ) (f : Fault) → AreBytes bytes → block_at bytes ≡ Err f → FirstFaultOfAll block_layout bytes f.at f.kind
   unfolding block_at
   block_fault bytes f b e =
@@ -164,5 +169,6 @@ module _ (headers : SpellingLaws IsHeader header_spelling (FirstFault header_lay
     one_form = λ a b ha hb e. same_given a b (sym (block_again a ha) ∙ ap block_at e ∙ block_again b hb);
     one_header = λ a b x y ha hb e. headers.one_form a b x y ha hb e;
     fault = λ bytes f b. (block_fault bytes f b, block_told bytes f b);
+    within = layouts.all_within block_layout;
     one_fault = λ bytes f g b hf hg. same_refused f g (sym (block_told bytes f b hf) ∙ block_told bytes g b hg);
   }

@@ -1,6 +1,7 @@
 -- What holds of the reading of blocks.
-use Rattle.std.specs.Prelude.{◌≡◌, ℕ, ◌↔◌, ◌++◌, List, Ok, Err}
+use Rattle.std.specs.Prelude.{◌≡◌, ◌≤◌, ℕ, ◌↔◌, ◌++◌, List, length, Ok, Err}
 use Rattle.wire.specs.Spelling.{AreBytes}
+use Rattle.wire.specs.declared.fault.DataKind.{DataKind}
 use Rattle.data_model.specs.declared.header.Header.{Header}
 use Rattle.data_model.specs.declared.block.Block.{Block}
 use Rattle.wire.specs.FirstFault.{FirstFaultOfAll}
@@ -21,3 +22,6 @@ pub record BlockLaws : Type 0 where
   pub fault : (bytes : List ℕ) (f : Fault) → AreBytes bytes → (block_at bytes ≡ Err f) ↔ FirstFaultOfAll block_layout bytes f.at f.kind
   -- bytes have at most one first fault
   pub one_fault : (bytes : List ℕ) (f g : Fault) → AreBytes bytes → FirstFaultOfAll block_layout bytes f.at f.kind → FirstFaultOfAll block_layout bytes g.at g.kind → f ≡ g
+  -- a fault stands at one of the bytes, or at their end
+  pub within : (bytes : List ℕ) (at : ℕ) (kind : DataKind) → FirstFaultOfAll block_layout bytes at kind
+      → at ≤ length bytes

@@ -1,7 +1,10 @@
 //! Headers and blocks as records: how each is read at a place, and written.
 use crate::{Block, Header, Txs};
 use std::alloc::Global;
-use wire::{Bytes, Cursor, DataFault, NoMemory, Record, layout_readings, put_varint, put_varstring, write_many};
+use wire::{
+    Bytes, Cursor, DataFault, NoMemory, Record, layout_readings, put_varint, put_varstring,
+    write_many,
+};
 
 const MAX_NUMBER: u64 = (1 << 63) - 1;
 
