@@ -1,13 +1,12 @@
 -- Headers and blocks are the values of their layouts.
-use Rattle.std.proofs.Common.{◌≡◌, ℕ, zero, suc, ◌+◌, ◌≤◌, ◌<◌, ◌^◌, List, [], ◌∷◌, ◌++◌, length, Result, Ok, Err, refl, sym, ap, subst, ◌∙◌, append_assoc, arith}
-use Rattle.std.specs.Prelude.{◌↔◌}
+use Rattle.std.proofs.Common.{◌≡◌, ℕ, ◌+◌, ◌≤◌, ◌<◌, ◌^◌, List, [], ◌∷◌, ◌++◌, length, Result, Ok, Err, refl, sym, ap, subst, ◌∙◌, append_assoc, arith}
 use Rattle.std.specs.List.{AllByRecursion}
-use Rattle.std.proofs.lemmas.List.{append-nil, nil_from_length}
+use Rattle.std.proofs.lemmas.List.{nil_from_length}
 use Rattle.wire.specs.Spelling.{AreBytes, varint, varstring}
 use Rattle.wire.specs.Places.{Place, Fault, Reading, start, mapped, then_at, number_at, whole_at}
-use Rattle.wire.specs.Layout.{Layout, Text, Value, Fits, IsNumber, spelling, read_at}
+use Rattle.wire.specs.Layout.{Text, Value, Fits, IsNumber, spelling, read_at}
 use Rattle.wire.specs.FirstFault.{FirstFault, WholeFault, FirstFaultOfAll}
-use Rattle.wire.specs.Readers.{IsReader, IsWholeReader, FaultAt, fault_at}
+use Rattle.wire.specs.Readers.{IsReader, IsWholeReader, FaultAt}
 use Rattle.wire.specs.LayoutLaws.{SpellingLaws, LayoutLaws}
 use Rattle.wire.specs.Records.{StandFor, mapped_reader, same_reader, left_there, left_back, mapped-mapped, both_of, then_same}
 use Rattle.data_model.specs.declared.header.Header.{Header}

@@ -1,5 +1,5 @@
 -- Reading from left to right, with the first fault that is met.
-use Rattle.std.specs.Prelude.{ℕ, List, None, Result}
+use Rattle.std.specs.Prelude.{ℕ, List, Result}
 use Rattle.wire.specs.Layout.{read_at}
 use Rattle.data_model.specs.declared.header.Header.{Header}
 use Rattle.data_model.specs.declared.block.Block.{Block}

@@ -7,10 +7,8 @@ use Rattle.wire.specs.Layout.{Value, Fits, read_at}
 use Rattle.wire.specs.FirstFault.{FirstFault}
 use Rattle.wire.specs.Readers.{IsReader}
 use Rattle.wire.specs.LayoutLaws.{LayoutLaws}
-use Rattle.wire.specs.Records.{HasParts, record_reader, same_reader, mapped-mapped, both_of, then_same, many_same, frame_same, kinds_same}
+use Rattle.wire.specs.Records.{record_reader, same_reader, mapped-mapped, both_of, then_same, many_same, frame_same, kinds_same}
 use Rattle.trials.specs.declared.page.Entry.{Entry}
-use Rattle.trials.specs.declared.page.Entry.TheVariants as Entry
-use Rattle.trials.specs.declared.page.Page.{Page}
 use Rattle.trials.specs.Page.{note_layout, note_made, note_at, entry_kinds, entry_layout, entry_parts, entry_of, entry_made, entry_behind, entry_at, EntryFits, entry_spelling, page_layout, page_parts, page_of, page_made, page_at, PageFits, page_spelling}
 
 -- ---- entries

@@ -1,12 +1,11 @@
 -- A page: which fields it has, and which values of them it is.
-use Rattle.std.specs.Prelude.{ℕ, zero, suc, List, map, Option, Some, None, Ok}
+use Rattle.std.specs.Prelude.{ℕ, zero, suc, List, map, Some, Ok}
 use Rattle.wire.specs.Places.{Place, Reading, ◌>>=◌, mapped, then_at, kind_at, many_at, frame_at}
-use Rattle.wire.specs.Layout.{Layout, Number, Amount, Text, Then, Many, Kinds, Frame, Nothing, or_else, only, Value}
+use Rattle.wire.specs.Layout.{Layout, Amount, Text, Then, Many, Kinds, Frame, Nothing, or_else, only, Value}
 use Rattle.wire.specs.Layout.{spelling, Fits, read_at}
 use Rattle.wire.specs.Records.{both_of}
 use Rattle.trials.specs.declared.page.Note.{Note}
 use Rattle.trials.specs.declared.page.Entry.{Entry}
-use Rattle.trials.specs.declared.page.Entry.TheVariants as Entry
 use Rattle.trials.specs.declared.page.Page.{Page}
 
 -- ---- notes

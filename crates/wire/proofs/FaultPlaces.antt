@@ -1,10 +1,10 @@
 -- A fault stands at one of the bytes, or at their end.
-use Rattle.std.proofs.Common.{◌≡◌, ℕ, zero, suc, ◌+◌, ◌≤◌, List, ◌∷◌, ◌++◌, length, Option, ap, ◌∙◌, inl, inr, append_assoc, arith}
+use Rattle.std.proofs.Common.{ℕ, zero, suc, ◌+◌, ◌≤◌, List, ◌∷◌, ◌++◌, length, Option, ap, inl, inr, arith}
 use Rattle.std.proofs.lemmas.List.{length-append}
 use Rattle.wire.specs.declared.fault.DataKind.{DataKind}
 use Rattle.wire.specs.Spelling.{varint, varstring}
 use Rattle.wire.specs.Layout.{Layout, Nothing, Number, Amount, Raw, Text, Then, Many, Kinds, Frame, Fits, spelling}
-use Rattle.wire.specs.FirstFault.{Faults, FaultHere, BehindValue, RoomFault, FitsRoom, ItemsFault, Left, WholeFault, InFrame, FirstFault, FirstFaultOfAll}
+use Rattle.wire.specs.FirstFault.{Faults, FaultHere, BehindValue, RoomFault, FitsRoom, ItemsFault, WholeFault, InFrame, FirstFault, FirstFaultOfAll}
 
 abbrev StandsWithin : Faults → Type 0
 StandsWithin F = (bytes : List ℕ) (at : ℕ) (kind : DataKind) → F bytes at kind → at ≤ length bytes
