@@ -1,5 +1,5 @@
 //! A place in bytes, and the fields that are read there. After a fault the place is of no use.
-ghost use Rattle.std.specs.Prelude.{◌≡◌, ◌↔◌, ◌==◌, ◌≤◌, [], length, drop, IsTrue, Option, Some, None};
+ghost use Rattle.std.specs.Prelude.{◌≡◌, ◌≢◌, ◌↔◌, ◌==◌, ◌≤◌, [], length, drop, IsTrue, Option, Some, None, Err};
 ghost use Rattle.wire.specs.Spelling.{AreBytes};
 ghost use Rattle.wire.specs.Places.{Reads, Holds, start, moved, number_at, raw_at, text_at, kind_at};
 
@@ -77,14 +77,16 @@ impl<'a> Cursor<'a> {
 
     /// A number of at most this value.
     pub fn number(&mut self, most: u64) -> Result<u64, DataFault>
-        ensures { Reads result self.new (number_at 0 most self.old) }
+        ensures read { Reads result self.new (number_at 0 most self.old) }
+        ensures no_memory { result ≢ Err DataFault.NoMemory }
     {
         self.limited(0, most)
     }
 
     /// A number of at most this value, and not 0.
     pub fn amount(&mut self, most: u64) -> Result<u64, DataFault>
-        ensures { Reads result self.new (number_at 1 most self.old) }
+        ensures read { Reads result self.new (number_at 1 most self.old) }
+        ensures no_memory { result ≢ Err DataFault.NoMemory }
     {
         self.limited(1, most)
     }
@@ -92,7 +94,8 @@ impl<'a> Cursor<'a> {
     // A number from the least to the most.
     #[tactic(auto, unfolding(crate::specs::Places::number_at))]
     fn limited(&mut self, least: u64, most: u64) -> Result<u64, DataFault>
-        ensures { Reads result self.new (number_at least most self.old) }
+        ensures read { Reads result self.new (number_at least most self.old) }
+        ensures no_memory { result ≢ Err DataFault.NoMemory }
     {
         match take_varint(self.rest) {
             Ok((n, _)) if n > most => Err(self.fault(DataKind::TooBig)),
@@ -108,7 +111,8 @@ impl<'a> Cursor<'a> {
     /// So many raw bytes.
     #[tactic(auto, unfolding(crate::specs::Places::raw_at))]
     pub fn raw<const N: usize>(&mut self) -> Result<[u8; N], DataFault>
-        ensures { Reads result self.new (raw_at N self.old) }
+        ensures read { Reads result self.new (raw_at N self.old) }
+        ensures no_memory { result ≢ Err DataFault.NoMemory }
     {
         if self.rest.len() < N {
             return Err(self.fault(DataKind::Short));
@@ -121,7 +125,8 @@ impl<'a> Cursor<'a> {
 
     /// An id.
     pub fn id(&mut self) -> Result<Id, DataFault>
-        ensures { Reads result self.new (raw_at 32 self.old) }
+        ensures read { Reads result self.new (raw_at 32 self.old) }
+        ensures no_memory { result ≢ Err DataFault.NoMemory }
     {
         self.raw::<32>()
     }
@@ -161,7 +166,8 @@ impl<'a> Cursor<'a> {
     /// The number of a kind, one of so many, in one byte.
     #[tactic(auto, unfolding(crate::specs::Places::kind_at))]
     pub fn kind(&mut self, count: u8) -> Result<u8, DataFault>
-        ensures { Reads result self.new (kind_at count self.old) }
+        ensures read { Reads result self.new (kind_at count self.old) }
+        ensures no_memory { result ≢ Err DataFault.NoMemory }
     {
         let Some(kind) = self.rest.first() else {
             return Err(self.fault(DataKind::Short));
