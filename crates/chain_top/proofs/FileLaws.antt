@@ -8,7 +8,7 @@ use Rattle.wire.specs.Spelling.{AreBytes, varint, varstring}
 use Rattle.wire.specs.Reading.{IsShort, IsShortString}
 use Rattle.wire.specs.Laws.{VarintLaws, VarstringLaws}
 use Rattle.data_model.specs.declared.block.Block.{Block}
-use Rattle.data_model.specs.declared.fault.DataKind.TheVariants.{Short}
+use Rattle.wire.specs.declared.fault.DataKind.TheVariants.{Short}
 use Rattle.data_model.specs.Spelling.{block_spelling}
 use Rattle.data_model.specs.Reading.{Fault}
 use Rattle.data_model.specs.Laws.{BlockLaws}

@@ -9,9 +9,11 @@ use Rattle.wire.specs.Spelling.{AreBytes, varint, varstring}
 use Rattle.wire.specs.Reading.{Read, groups_at, varint_at, varstring_at}
 use Rattle.wire.specs.Laws.{VarintLaws, VarstringLaws}
 use Rattle.data_model.specs.declared.block.Block.{Block}
-use Rattle.data_model.specs.declared.fault.DataKind.{DataKind}
-use Rattle.data_model.specs.declared.fault.DataKind.TheVariants.{Short}
-use Rattle.data_model.specs.Layout.{Layout, FirstFault, trailing, here, later, in_count, behind_count, block_layout, kind_of}
+use Rattle.wire.specs.declared.fault.DataKind.{DataKind}
+use Rattle.wire.specs.declared.fault.DataKind.TheVariants.{Short}
+use Rattle.wire.specs.FirstFault.{FirstFaultOfAll}
+use Rattle.wire.specs.Places.{kind_of}
+use Rattle.data_model.specs.Layout.{block_layout}
 use Rattle.data_model.specs.Spelling.{block_spelling}
 use Rattle.data_model.specs.Reading.{Fault, block_at}
 use Rattle.data_model.specs.Laws.{BlockLaws}
@@ -36,19 +38,6 @@ AreBytes-front (b ∷ front) rest h = λ i. byte b front i (h 0) (AreBytes-front
     byte b front zero first others = first
     byte b front (suc i) first others = others i
 
--- ---- a fault stands in the bytes or at their end
-
-pub FirstFault-within : (layout : Layout) (bytes : List ℕ) (at : ℕ) (kind : DataKind) → FirstFault layout bytes at kind → at ≤ length bytes
-FirstFault-within layout bytes at why (trailing {b = b} {bytes = more}) = omega arith
-FirstFault-within layout bytes at why (here h) = omega arith
-FirstFault-within layout bytes at why (later {layout = l} front rest {place = place} s e h place_is) =
-    (let within = FirstFault-within l rest place why h in
-    omega (arith, within, ap length e, length-append front rest))
-FirstFault-within layout bytes at why (in_count h) = omega arith
-FirstFault-within layout bytes at why (behind_count n front rest {place = place} s e h place_is) =
-    (let within = FirstFault-within _ rest place why h in
-    omega (arith, within, ap length e, length-append front rest))
-
 -- ---- a frame at the front
 
 -- how many bytes a string takes that was read
@@ -56,11 +45,11 @@ pub frame_len : (strings : VarstringLaws) (bytes held : List ℕ) (len : ℕ) �
 frame_len strings bytes held len h e = omega (arith, ap length e, length-take len bytes, ap length (strings.is held), length-append (varint (length held)) held)
 
 -- the place of a fault of a block, counted from the frame's first byte, is within 64 bits
-pub frame_place : (numbers : VarintLaws) (strings : VarstringLaws) (bytes held : List ℕ) (len at : ℕ) (kind : DataKind) → len ≤ length bytes → take len bytes ≡ varstring held → length held ≤ longest_frame → FirstFault block_layout held at kind → (len - length held + at) < 2 ^ 62
-frame_place numbers strings bytes held len at kind h e small fault =
+pub frame_place : (numbers : VarintLaws) (strings : VarstringLaws) (blocks : BlockLaws) (bytes held : List ℕ) (len at : ℕ) (kind : DataKind) → len ≤ length bytes → take len bytes ≡ varstring held → length held ≤ longest_frame → FirstFaultOfAll block_layout held at kind → (len - length held + at) < 2 ^ 62
+frame_place numbers strings blocks bytes held len at kind h e small fault =
     let len_is = frame_len strings bytes held len h e in
     let few = numbers.few (length held) (omega arith) in
-    let within = FirstFault-within block_layout held at kind fault in
+    let within = blocks.within held at kind fault in
     omega arith
 
 pub frame_some : (numbers : VarintLaws) (strings : VarstringLaws) (bytes held : List ℕ) (len : ℕ) → len ≤ length bytes → take len bytes ≡ varstring held → length held ≤ longest_frame → 0 < len
@@ -152,12 +141,12 @@ pub varstring-is : (x : List ℕ) → varstring x ≡ varint (length x) ++ x
 unfolding varstring
 varstring-is x = refl
 
-pub FrameFault-within : (bytes : List ℕ) (at : ℕ) (why : DataKind) → FrameFault bytes at why → at ≤ length bytes
-FrameFault-within bytes at why (short h) = omega arith
-FrameFault-within bytes at why (not_shortest h) = omega arith
-FrameFault-within bytes at why (too_big h) = omega arith
-FrameFault-within bytes at why (in_block held rest {place = place} small e first at_is) =
-    let within = FirstFault-within block_layout held place why first in
+pub FrameFault-within : (blocks : BlockLaws) (bytes : List ℕ) (at : ℕ) (why : DataKind) → FrameFault bytes at why → at ≤ length bytes
+FrameFault-within blocks bytes at why (short h) = omega arith
+FrameFault-within blocks bytes at why (not_shortest h) = omega arith
+FrameFault-within blocks bytes at why (too_big h) = omega arith
+FrameFault-within blocks bytes at why (in_block held rest {place = place} small e first at_is) =
+    let within = blocks.within held place why first in
     omega (arith, ap length e, length-append (varstring held) rest, ap length (varstring-is held), length-append (varint (length held)) held)
 
 abbrev fault_of : ℕ → ℕ → DataKind → FileFault

@@ -5,11 +5,12 @@ use Rattle.std.specs.List.{flat_map, AllByRecursion}
 use Rattle.wire.specs.Spelling.{AreBytes, varint, varstring}
 use Rattle.wire.specs.Reading.{Read, varstring_at, IsTooBigString, IsNotShortest, IsShortString}
 use Rattle.data_model.specs.declared.block.Block.{Block}
-use Rattle.data_model.specs.declared.fault.DataKind.{DataKind}
-use Rattle.data_model.specs.declared.fault.DataKind.TheVariants.{Short, NotShortest, TooBig, Zero, Kind, Trailing}
-use Rattle.data_model.specs.declared.fault.DataKind.TheVariants.{Count}
-use Rattle.data_model.specs.declared.fault.DataFault.{DataFault}
-use Rattle.data_model.specs.Layout.{FirstFault, block_layout, kind_of}
+use Rattle.wire.specs.declared.fault.DataKind.{DataKind}
+use Rattle.wire.specs.declared.fault.DataKind.TheVariants.{Short, NotShortest, TooBig, Zero, Kind, Trailing, Count}
+use Rattle.wire.specs.declared.fault.DataFault.{DataFault}
+use Rattle.wire.specs.FirstFault.{FirstFaultOfAll}
+use Rattle.wire.specs.Places.{kind_of}
+use Rattle.data_model.specs.Layout.{block_layout}
 use Rattle.data_model.specs.Spelling.{IsBlock, block_spelling}
 use Rattle.data_model.specs.Reading.{Fault, Fails, block_at}
 use Rattle.chain_top.specs.declared.frames.FramesFault.{FramesFault}
@@ -58,7 +59,7 @@ pub data FrameFault (bytes : List ℕ) : ℕ → DataKind → Type 0 where
       (held rest : List ℕ) {place at : ℕ} {kind : DataKind}
       → length held ≤ longest_frame
       → bytes ≡ varstring held ++ rest
-      → FirstFault block_layout held place kind
+      → FirstFaultOfAll block_layout held place kind
       → at ≡ length (varint (length held)) + place
       → FrameFault bytes at kind
 

@@ -1,7 +1,7 @@
 -- Printed lines, each with its newline.
 use Rattle.std.specs.Prelude.{ℕ, List, [], ◌∷◌, ◌++◌, codes, decimal}
 use Rattle.hex.specs.Hex.{encode_lower}
-use Rattle.data_model.specs.declared.fault.DataKind.{DataKind}
+use Rattle.wire.specs.declared.fault.DataKind.{DataKind}
 use Rattle.vm_num.specs.Failure.{failure_name}
 use Rattle.vm_run.specs.declared.verdict.Verdict.{Verdict}
 use Rattle.vm_run.specs.declared.verdict.Verdict.TheVariants.{Succeeded, Failed}

@@ -1,7 +1,7 @@
 -- What the files of blocks are that a command reads.
 use Rattle.std.specs.Prelude.{◌≡◌, ℕ, ◌<◌, ◌≤◌, List, [], ◌∷◌, ◌++◌, length, Some, None, Result, Ok, Err}
 use Rattle.data_model.specs.declared.block.Block.{Block}
-use Rattle.data_model.specs.declared.fault.DataKind.TheVariants.{Count}
+use Rattle.wire.specs.declared.fault.DataKind.TheVariants.{Count}
 use Rattle.vm_run.specs.Row.{Check}
 use Rattle.wire.specs.Spelling.{AreBytes}
 use Rattle.ledger_core.specs.declared.refusal.BlockRefusal.{BlockRefusal}

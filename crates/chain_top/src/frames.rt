@@ -66,6 +66,7 @@ fn all_frames(alloc: Global, bytes: &[u8]) -> Result<Blocks, FramesFault>
     ensures found { IfOk result (λ blocks. AreFramed blocks × (bytes.now ≡ file_spelling blocks)) }
     ensures fault { (f : FileFault) → result ≡ Err (FramesFault.At f.index f.at f.kind) → FirstFileFault bytes.now f }
 {
+    block_readings();
     let mut blocks = Blocks::new(alloc);
     let mut rest = bytes;
     while !rest.is_empty() {

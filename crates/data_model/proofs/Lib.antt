@@ -1,5 +1,1 @@
-pub mod Loop
-pub mod Readers
-pub mod Fields
-pub mod Records
-pub mod Whole
+pub mod BlockRecords

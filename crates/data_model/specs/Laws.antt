@@ -1,9 +1,11 @@
 -- What holds of the reading of blocks.
-use Rattle.std.specs.Prelude.{◌≡◌, ℕ, ◌↔◌, ◌++◌, List, Ok, Err}
+use Rattle.std.specs.Prelude.{◌≡◌, ◌≤◌, ℕ, ◌↔◌, ◌++◌, List, length, Ok, Err}
 use Rattle.wire.specs.Spelling.{AreBytes}
+use Rattle.wire.specs.declared.fault.DataKind.{DataKind}
 use Rattle.data_model.specs.declared.header.Header.{Header}
 use Rattle.data_model.specs.declared.block.Block.{Block}
-use Rattle.data_model.specs.Layout.{FirstFault, block_layout}
+use Rattle.wire.specs.FirstFault.{FirstFaultOfAll}
+use Rattle.data_model.specs.Layout.{block_layout}
 use Rattle.data_model.specs.Spelling.{IsHeader, IsBlock, header_spelling, block_spelling}
 use Rattle.data_model.specs.Reading.{Fault, block_at}
 
@@ -29,11 +31,14 @@ pub record BlockLaws : Type 0 where
   pub fault :
       (bytes : List ℕ) (f : Fault)
       → AreBytes bytes
-      → (block_at bytes ≡ Err f) ↔ FirstFault block_layout bytes f.at f.kind
+      → (block_at bytes ≡ Err f) ↔ FirstFaultOfAll block_layout bytes f.at f.kind
   -- bytes have at most one first fault
   pub one_fault :
       (bytes : List ℕ) (f g : Fault)
       → AreBytes bytes
-      → FirstFault block_layout bytes f.at f.kind
-      → FirstFault block_layout bytes g.at g.kind
+      → FirstFaultOfAll block_layout bytes f.at f.kind
+      → FirstFaultOfAll block_layout bytes g.at g.kind
       → f ≡ g
+  -- a fault stands at one of the bytes, or at their end
+  pub within : (bytes : List ℕ) (at : ℕ) (kind : DataKind) → FirstFaultOfAll block_layout bytes at kind
+      → at ≤ length bytes

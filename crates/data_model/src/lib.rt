@@ -4,22 +4,20 @@
 #![tactic(auto)]
 
 mod block;
-mod cursor;
 mod decode;
 mod encode;
-mod fault;
 mod header;
 mod input;
 mod laws;
 mod lists;
 mod output;
 mod output_body;
+mod records;
 mod tx;
 
 pub use block::Block;
 pub use decode::decode_block;
 pub use encode::{encode_block, encode_header};
-pub use fault::{DataFault, DataKind};
 pub use header::Header;
 pub use input::{Input, Issue, Spend};
 pub use laws::block_readings;
@@ -27,4 +25,7 @@ pub use lists::{Blocks, Ids, Inputs, Outputs, Txs};
 pub use output::{Control, Output, Retire};
 pub use output_body::OutputBody;
 pub use tx::Tx;
-pub use wire::{Args, Bytes, Id, NoMemory};
+pub use wire::{Args, Bytes, DataFault, DataKind, Id, NoMemory};
+
+#[cfg(test)]
+mod tests;

@@ -1,5 +1,6 @@
 //! Tests of library calls, a module a crate: what no contract says, each call once on its happy path, and the fakes'
-//! faults in turn. Whole calls of the program are played by the crate `calls`.
+//! faults in turn; and a small record that shows how one is declared. Whole calls of the program are played by the
+//! crate `calls`.
 #![tactic(auto)]
 
 #[cfg(test)]
@@ -12,6 +13,7 @@ mod keyed_calls;
 mod ledger_core_calls;
 #[cfg(test)]
 mod outside_calls;
+pub mod page;
 #[cfg(test)]
 mod rows;
 #[cfg(test)]

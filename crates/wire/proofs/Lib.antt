@@ -1,5 +1,13 @@
 pub mod Groups
 pub mod Faults
-pub mod Writing
 pub mod NumberLaws
 pub mod StringLaws
+pub mod Writing
+pub mod Readers
+pub mod ListReaders
+pub mod FieldReaders
+pub mod WholeReaders
+pub mod LayoutReaders
+pub mod SpellingLaws
+pub mod Loop
+pub mod FaultPlaces

@@ -18,10 +18,7 @@ pub record VarintLaws : Type 0 where
   -- what is spelled is read again, whatever follows it
   pub again : (n : ℕ) (rest : List ℕ) → n < 2 ^ 63 → varint_at (varint n ++ rest) ≡ Ok (n, rest)
   -- what is read is spelled so
-  pub spelled :
-      (bytes : List ℕ) (n : ℕ) (rest : List ℕ)
-      → AreBytes bytes
-      → varint_at bytes ≡ Ok (n, rest)
+  pub spelled : (bytes : List ℕ) (n : ℕ) (rest : List ℕ) → AreBytes bytes → varint_at bytes ≡ Ok (n, rest)
       → (n < 2 ^ 63) × (bytes ≡ varint n ++ rest) × AreBytes rest
   -- when each fault comes
   pub too_big : (bytes : List ℕ) → (varint_at bytes ≡ Err TooBig) ↔ IsTooBig bytes
@@ -31,28 +28,18 @@ pub record VarintLaws : Type 0 where
 pub record VarstringLaws : Type 0 where
   pub is : (x : List ℕ) → varstring x ≡ varint (length x) ++ x
   -- no spelling begins another
-  pub one_form :
-      (s t x y : List ℕ)
-      → length s < 2 ^ 63
-      → length t < 2 ^ 63
-      → varstring s ++ x ≡ varstring t ++ y
+  pub one_form : (s t x y : List ℕ) → length s < 2 ^ 63 → length t < 2 ^ 63 → varstring s ++ x ≡ varstring t ++ y
       → (s ≡ t) × (x ≡ y)
   -- what is spelled is read again, whatever follows it
-  pub again :
-      (most : ℕ) (s rest : List ℕ)
-      → length s ≤ most
-      → length s < 2 ^ 63
+  pub again : (most : ℕ) (s rest : List ℕ) → length s ≤ most → length s < 2 ^ 63
       → varstring_at most (varstring s ++ rest) ≡ Ok (s, rest)
   -- what is read is spelled so
-  pub spelled :
-      (most : ℕ) (bytes s rest : List ℕ)
-      → AreBytes bytes
-      → varstring_at most bytes ≡ Ok (s, rest)
+  pub spelled : (most : ℕ) (bytes s rest : List ℕ) → AreBytes bytes → varstring_at most bytes ≡ Ok (s, rest)
       → (length s ≤ most) × (length s < 2 ^ 63) × (bytes ≡ varstring s ++ rest) × AreBytes rest
   -- when each fault comes
-  pub too_big :
-      (most : ℕ) (bytes : List ℕ) → AreBytes bytes → (varstring_at most bytes ≡ Err TooBig) ↔ IsTooBigString most bytes
-  pub not_shortest :
-      (most : ℕ) (bytes : List ℕ) → AreBytes bytes → (varstring_at most bytes ≡ Err NotShortest) ↔ IsNotShortest bytes
-  pub short :
-      (most : ℕ) (bytes : List ℕ) → AreBytes bytes → (varstring_at most bytes ≡ Err Short) ↔ IsShortString most bytes
+  pub too_big : (most : ℕ) (bytes : List ℕ) → AreBytes bytes
+      → (varstring_at most bytes ≡ Err TooBig) ↔ IsTooBigString most bytes
+  pub not_shortest : (most : ℕ) (bytes : List ℕ) → AreBytes bytes
+      → (varstring_at most bytes ≡ Err NotShortest) ↔ IsNotShortest bytes
+  pub short : (most : ℕ) (bytes : List ℕ) → AreBytes bytes
+      → (varstring_at most bytes ≡ Err Short) ↔ IsShortString most bytes

@@ -57,11 +57,10 @@ IsNotShortest bytes = (n : ℕ) × (0 < n) × (n < 9) × HighFront n bytes × (s
 
 -- a length that is too big for any number, or one that passes the most
 abbrev pub IsTooBigString : ℕ → List ℕ → Type 0
-IsTooBigString most bytes =
-    IsTooBig bytes ⊎ ((n : ℕ) × (rest : List ℕ) × (bytes ≡ varint n ++ rest) × (n < 2 ^ 63) × (most < n))
+IsTooBigString most bytes = IsTooBig bytes
+    ⊎ ((n : ℕ) × (rest : List ℕ) × (bytes ≡ varint n ++ rest) × (n < 2 ^ 63) × (most < n))
 
 -- a length that is cut short, or one of at most the most with fewer bytes behind it
 abbrev pub IsShortString : ℕ → List ℕ → Type 0
-IsShortString most bytes =
-    IsShort bytes
+IsShortString most bytes = IsShort bytes
     ⊎ ((n : ℕ) × (rest : List ℕ) × (bytes ≡ varint n ++ rest) × (n < 2 ^ 63) × (n ≤ most) × (length rest < n))

@@ -1,6 +1,6 @@
 -- How numbers and strings are spelled in bytes.
-use Rattle.std.specs.Prelude.{ℕ, zero, suc, ◌+◌, ◌*◌, ◌/◌, ◌%◌, ◌<◌, List, [], ◌∷◌, ◌++◌, length, nat_lt, if◌then◌else◌}
-use Rattle.std.specs.Prelude.{slice_index}
+use Rattle.std.specs.Prelude.{ℕ, zero, suc, ◌+◌, ◌*◌, ◌/◌, ◌%◌, ◌<◌, List, [], ◌∷◌, ◌++◌, length, nat_lt}
+use Rattle.std.specs.Prelude.{if◌then◌else◌, slice_index}
 
 -- each is below 256
 abbrev pub AreBytes : List ℕ → Type 0

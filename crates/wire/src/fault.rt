@@ -1,3 +1,9 @@
+ghost use Rattle.std.specs.Prelude.{◌≡◌};
+ghost use Rattle.wire.specs.declared.fault.DataFault.TheVariants.{NoMemory};
+ghost use Rattle.wire.specs.Places.{kind_of};
+
+use crate::NoMemory;
+
 /// Why bytes don't begin with a spelling.
 #[derive(Clone, Copy, Debug, PartialEq, Eq)]
 pub enum WireFault {
@@ -7,4 +13,52 @@ pub enum WireFault {
     NotShortest,
     /// A number isn't below 2^63, or a string is longer than is allowed.
     TooBig,
+}
+
+/// Why bytes could not be read as a record.
+#[derive(Clone, Copy, Debug, PartialEq, Eq)]
+pub enum DataFault {
+    /// The first fault of the bytes, and the place of its first byte, counted from 0.
+    At { at: u64, kind: DataKind },
+    /// Memory was wanted and not found.
+    NoMemory,
+}
+
+/// What is wrong at a place of the bytes.
+#[derive(Clone, Copy, Debug, PartialEq, Eq)]
+pub enum DataKind {
+    /// The bytes end in a field.
+    Short,
+    /// A number is spelled with more bytes than it needs.
+    NotShortest,
+    /// A number, a count or a length is above its limit, or records take more bytes than they may.
+    TooBig,
+    /// An amount is 0.
+    Zero,
+    /// A byte that says which kind follows names none.
+    Kind,
+    /// Bytes follow the end.
+    Trailing,
+    /// A file has not the number of records that it should have. No reader of one record tells this.
+    Count,
+}
+
+impl From<WireFault> for DataKind {
+    ghost from_gives = { λ e kind. kind ≡ kind_of e };
+
+    fn from(fault: WireFault) -> DataKind {
+        match fault {
+            WireFault::Short => DataKind::Short,
+            WireFault::NotShortest => DataKind::NotShortest,
+            WireFault::TooBig => DataKind::TooBig,
+        }
+    }
+}
+
+impl From<NoMemory> for DataFault {
+    ghost from_gives = { λ _ e. e ≡ NoMemory };
+
+    fn from(_: NoMemory) -> DataFault {
+        DataFault::NoMemory
+    }
 }

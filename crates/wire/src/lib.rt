@@ -2,18 +2,22 @@
 //! significant group first and the high bit set on all bytes but the last; a string is its length and its bytes.
 #![tactic(auto)]
 
+mod cursor;
 mod fault;
 mod laws;
-mod lists;
+mod listed;
 mod memory;
 mod numbers;
+mod record;
 mod strings;
 
-pub use fault::WireFault;
-pub use laws::spellings;
-pub use lists::{Args, Bytes};
+pub use cursor::Cursor;
+pub use fault::{DataFault, DataKind, WireFault};
+pub use laws::{layout_readings, spellings};
+pub use listed::{Args, Bytes, Listed, Twin};
 pub use memory::NoMemory;
 pub use numbers::{put_varint, take_varint};
+pub use record::{Record, decode, encode, put, put_frame, record_readings, write_many};
 pub use strings::{put_varstring, take_varstring};
 
 /// The name of an entry or an asset: 32 raw bytes.

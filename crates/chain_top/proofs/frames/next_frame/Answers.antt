@@ -3,7 +3,7 @@ use Rattle.std.specs.Prelude.{IfOk}
 use Rattle.wire.specs.Spelling.{AreBytes}
 use Rattle.wire.specs.Laws.{VarstringLaws}
 use Rattle.data_model.specs.declared.block.Block.{Block}
-use Rattle.data_model.specs.declared.fault.DataFault.{DataFault}
+use Rattle.wire.specs.declared.fault.DataFault.{DataFault}
 use Rattle.data_model.specs.Reading.{Fault}
 use Rattle.data_model.specs.Laws.{BlockLaws}
 use Rattle.chain_top.specs.Frames.{IsFramed, frame_spelling, frame_at, FrameGives}

@@ -1,0 +1,101 @@
+//! Headers and blocks as records: how each is read at a place, and written.
+use crate::{Block, Header, Txs};
+use std::alloc::Global;
+use wire::{
+    Bytes, Cursor, DataFault, NoMemory, Record, layout_readings, put_varint, put_varstring,
+    write_many,
+};
+
+const MAX_NUMBER: u64 = (1 << 63) - 1;
+
+const MAX_STRING_LEN: u64 = 65_536;
+
+const MAX_ARGS: u64 = 64;
+
+const MAX_TXS: u64 = 0;
+
+impl Record for Header {
+    ghost use Rattle.wire.specs.FirstFault.{FirstFault};
+    ghost use Rattle.data_model.specs.Layout.{header_layout};
+    ghost use Rattle.data_model.specs.Spelling.{IsHeader, header_spelling};
+    ghost use Rattle.data_model.specs.Reading.{header_at};
+
+    ghost fits = { IsHeader };
+
+    ghost spelling = { header_spelling };
+
+    ghost faults = { FirstFault header_layout };
+
+    ghost reading = { header_at };
+
+    fn read(alloc: Global, cursor: &mut Cursor<'_>) -> Result<Header, DataFault> {
+        let version = cursor.number(MAX_NUMBER)?;
+        let height = cursor.number(MAX_NUMBER)?;
+        let previous = cursor.id()?;
+        let time = cursor.number(MAX_NUMBER)?;
+        let tx_root = cursor.id()?;
+        let unspent_root = cursor.id()?;
+        let next_program = cursor.text(alloc, MAX_STRING_LEN)?;
+        Ok(Header {
+            version,
+            height,
+            previous,
+            time,
+            tx_root,
+            unspent_root,
+            next_program,
+        })
+    }
+
+    #[tactic(auto, unfolding(crate::specs::Spelling::header_spelling))]
+    fn write(&self, _alloc: Global, out: &mut Bytes) -> Result<(), NoMemory> {
+        put_varint(out, self.version)?;
+        put_varint(out, self.height)?;
+        out.extend_from_slice(&self.previous)?;
+        put_varint(out, self.time)?;
+        out.extend_from_slice(&self.tx_root)?;
+        out.extend_from_slice(&self.unspent_root)?;
+        put_varstring(out, self.next_program.as_slice())
+    }
+
+    fn readings() {
+        layout_readings();
+    }
+}
+
+impl Record for Block {
+    ghost use Rattle.wire.specs.FirstFault.{FirstFault};
+    ghost use Rattle.data_model.specs.Layout.{block_layout};
+    ghost use Rattle.data_model.specs.Spelling.{IsBlock, block_spelling};
+    ghost use Rattle.data_model.specs.Reading.{next_block_at};
+
+    ghost fits = { IsBlock };
+
+    ghost spelling = { block_spelling };
+
+    ghost faults = { FirstFault block_layout };
+
+    ghost reading = { next_block_at };
+
+    fn read(alloc: Global, cursor: &mut Cursor<'_>) -> Result<Block, DataFault> {
+        let header = Header::read(alloc, cursor)?;
+        let args = cursor.many::<Bytes>(alloc, MAX_ARGS, None)?;
+        cursor.number(MAX_TXS)?;
+        Ok(Block {
+            header,
+            args,
+            txs: Txs::new(alloc),
+        })
+    }
+
+    #[tactic(auto, unfolding(crate::specs::Spelling::block_spelling))]
+    fn write(&self, alloc: Global, out: &mut Bytes) -> Result<(), NoMemory> {
+        self.header.write(alloc, out)?;
+        write_many(alloc, out, self.args.as_slice())?;
+        put_varint(out, self.txs.len() as u64)
+    }
+
+    fn readings() {
+        layout_readings();
+    }
+}

@@ -1,0 +1,104 @@
+-- What a record is made of, as data; which values it has, how each is spelled, and which are within the limits.
+use Rattle.std.specs.Prelude.{◌≡◌, ℕ, zero, suc, ◌+◌, ◌^◌, ◌≤◌, ◌<◌, List, [], ◌∷◌, ◌++◌, length, Option, Some, None}
+use Rattle.std.specs.Prelude.{Ok}
+use Rattle.std.specs.List.{flat_map, AllByRecursion}
+use Rattle.wire.specs.Spelling.{varint, varstring}
+use Rattle.wire.specs.Places.{Place, Reading, then_at, number_at, raw_at, text_at, kinds_at, many_at, frame_at}
+
+pub data Layout : Type 0 where
+  -- no bytes
+  Nothing : Layout
+  -- a number of at most this value
+  Number : (most : ℕ) → Layout
+  -- the same, and not 0
+  Amount : (most : ℕ) → Layout
+  -- so many raw bytes
+  Raw : (len : ℕ) → Layout
+  -- a length of at most this value, and so many bytes
+  Text : (most : ℕ) → Layout
+  -- one after the other
+  Then : (first second : Layout) → Layout
+  -- a count of at most this value, and so many of one layout. Where there is a room, they take at most so many bytes.
+  Many : (most : ℕ) → (room : Option ℕ) → (each : Layout) → Layout
+  -- the number of a kind, one of so many, in one byte, and what it stands for
+  Kinds : (count : ℕ) → (kind : ℕ → Layout) → Layout
+  -- a length of at most this value, and one record, which takes so many bytes
+  Frame : (most : ℕ) → (held : Layout) → Layout
+
+-- an id
+abbrev pub Id : Layout
+Id = Raw 32
+
+-- kinds in order, from 0
+abbrev pub or_else : Layout → (ℕ → Layout) → ℕ → Layout
+or_else first others zero = first
+or_else first others (suc k) = others k
+
+abbrev pub only : Layout → ℕ → Layout
+only layout k = layout
+
+abbrev pub Value : Layout → Type 0
+Value Nothing = Unit {0}
+Value (Number most) = ℕ
+Value (Amount most) = ℕ
+Value (Raw len) = List ℕ
+Value (Text most) = List ℕ
+Value (Then first second) = Value first × Value second
+Value (Many most room each) = List (Value each)
+Value (Kinds count kind) = (k : ℕ) × Value (kind k)
+Value (Frame most held) = Value held
+
+-- ---- spellings
+
+abbrev pub spelling : (layout : Layout) → Value layout → List ℕ
+spelling Nothing v = []
+spelling (Number most) n = varint n
+spelling (Amount most) n = varint n
+spelling (Raw len) bytes = bytes
+spelling (Text most) text = varstring text
+spelling (Then first second) v = spelling first v.0 ++ spelling second v.1
+spelling (Many most room each) vs = varint (length vs) ++ flat_map (spelling each) vs
+spelling (Kinds count kind) v = v.0 ∷ spelling (kind v.0) v.1
+spelling (Frame most held) v = varstring (spelling held v)
+
+-- ---- within the limits
+
+abbrev pub IsWithin : Option ℕ → ℕ → Type 0
+IsWithin None size = Unit {0}
+IsWithin (Some most) size = size ≤ most
+
+-- a number that has a spelling, within its limits
+pub record IsNumber (least most n : ℕ) : Type 0 where
+  pub least_at_most : least ≤ n
+  pub at_most : n ≤ most
+  pub spelled : n < 2 ^ 63
+
+-- so many records, each within its limits and all within the room
+pub record AreItems {X : Type 0} (fits : X → Type 0) (spell : X → List ℕ) (room : Option ℕ) (used : ℕ) (xs : List X)
+    : Type 0 where
+  pub each : AllByRecursion fits xs
+  pub within : IsWithin room (used + length (flat_map spell xs))
+
+abbrev pub Fits : (layout : Layout) → Value layout → Type 0
+Fits Nothing v = Unit {0}
+Fits (Number most) n = IsNumber 0 most n
+Fits (Amount most) n = IsNumber 1 most n
+Fits (Raw len) bytes = length bytes ≡ len
+Fits (Text most) text = IsNumber 0 most (length text)
+Fits (Then first second) v = Fits first v.0 × Fits second v.1
+Fits (Many most room each) vs = IsNumber 0 most (length vs) × AreItems (Fits each) (spelling each) room 0 vs
+Fits (Kinds count kind) v = (v.0 < count) × Fits (kind v.0) v.1
+Fits (Frame most held) v = Fits held v × IsNumber 0 most (length (spelling held v))
+
+-- ---- reading
+
+abbrev pub read_at : (layout : Layout) → Place → Reading (Value layout)
+read_at Nothing place = Ok (tt, place)
+read_at (Number most) place = number_at 0 most place
+read_at (Amount most) place = number_at 1 most place
+read_at (Raw len) place = raw_at len place
+read_at (Text most) place = text_at most place
+read_at (Then first second) place = then_at (read_at first) (read_at second) place
+read_at (Many most room each) place = many_at most room (read_at each) place
+read_at (Kinds count kind) place = kinds_at count (λ k. read_at (kind k)) place
+read_at (Frame most held) place = frame_at most (read_at held) place
