@@ -1,5 +1,5 @@
 -- The headline from what a call answers and the laws of the model.
-use Rattle.std.proofs.Common.{◌≡◌, ◌⊎◌, ℕ, List, [], ◌∷◌, get_or, Option, Some, Result, Ok, Err, inl, inr, refl, sym, ◌∙◌, ap, subst, arith}
+use Rattle.std.proofs.Common.{◌≡◌, ◌⊎◌, ℕ, List, [], get_or, Option, Some, Result, Ok, Err, inl, inr, sym, ◌∙◌, ap, subst, arith}
 use Rattle.data_model.specs.declared.block.Block.{Block}
 use Rattle.vm_run.specs.Row.{Check}
 use Rattle.outside.specs.Files.{Content, Write}
@@ -8,9 +8,9 @@ use Rattle.chain_top.specs.Command.{Command, Vm, Init, Apply, command_of}
 use Rattle.chain_top.specs.Frames.{FileLaws}
 use Rattle.chain_top.specs.Growth.{Grows, GrowthLaws, appends}
 use Rattle.chain_top.specs.Headline.{DoesReply, Grown, GrowsLedger, FilesRead, OwnRefusal, IsComplete}
-use Rattle.chain_top.specs.Loading.{Stop, BlocksOf, LedgerOf}
+use Rattle.chain_top.specs.Loading.{BlocksOf, LedgerOf}
 use Rattle.chain_top.specs.Reply.{Hash, Given, Reply, VmReply, misfit, ran, InitReply, made, ApplyReply, no_ledger, no_offers, too_long, done, CommandReply, IsReply}
-use Rattle.chain_top.specs.Whole.{NoneFailed, IsWhole, AnswerLaws, held_by}
+use Rattle.chain_top.specs.Whole.{IsWhole, AnswerLaws, held_by}
 use Rattle.chain_top.specs.Word.{Word}
 use Rattle.chain_top.proofs.Named.{NamedIn, named_in}
 use Rattle.chain_top.proofs.OneApply.{one_blocks, one_ledger}

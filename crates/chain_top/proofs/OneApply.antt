@@ -1,8 +1,5 @@
 -- There are no two replies to `apply`, for what the files hold.
-use Rattle.std.proofs.Common.{◌≡◌, ◌⊎◌, ℕ, suc, ◌+◌, ◌<◌, ◌≤◌, true, false, List, [], ◌∷◌, ◌++◌, length, Option, Some, None, Result, Ok, Err, inl, inr, refl, sym, ◌∙◌, ap, subst, append_assoc, arith}
-use Rattle.std.proofs.lemmas.Bool.{false≢true}
-use Rattle.std.proofs.lemmas.Bool.Decides.{nat_tests}
-use Rattle.std.proofs.lemmas.Grind.{common_steps}
+use Rattle.std.proofs.Common.{◌≡◌, ◌⊎◌, ℕ, suc, ◌+◌, ◌<◌, ◌≤◌, List, [], ◌∷◌, ◌++◌, length, Option, Some, None, Result, Ok, Err, inl, inr, refl, sym, ◌∙◌, ap, subst, append_assoc, arith}
 use Rattle.std.proofs.lemmas.List.{append-nil}
 use Rattle.data_model.specs.declared.block.Block.{Block}
 use Rattle.vm_run.specs.Row.{Check}
@@ -16,7 +13,7 @@ use Rattle.ledger_core.proofs.Refusals as refusals
 use Rattle.outside.specs.Files.{Content, Read, Write}
 use Rattle.chain_top.specs.Frames.{FileFault, FileReadsAs, FileLaws}
 use Rattle.chain_top.specs.Line.{refused_file, refused_ledger, start_words, refusal_words, refused_block}
-use Rattle.chain_top.specs.Loading.{Stop, Missing, Refusing, most_bytes, file_read, BytesOf, missing, long, read, BlocksOf, stopped, fault, blocks, NoChain, empty, no_start, no_next, LedgerOf, ledger_stopped, no_chain, chain}
+use Rattle.chain_top.specs.Loading.{Stop, Refusing, most_bytes, file_read, BytesOf, missing, long, read, BlocksOf, stopped, fault, blocks, NoChain, empty, no_start, no_next, LedgerOf, ledger_stopped, no_chain, chain}
 use Rattle.chain_top.specs.Reply.{Hash, Line, Reply, stopped as stopped_reply, OfferTells, accepted, refused, Applied, none, next, ApplyReply, no_ledger, no_offers, too_long, done}
 use Rattle.chain_top.specs.Word.{Word}
 use Rattle.chain_top.proofs.ApplyReplies.{some_bytes}

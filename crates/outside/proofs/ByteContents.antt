@@ -1,5 +1,5 @@
 -- What calls do to contents, where these are taken as bytes.
-use Rattle.std.proofs.Common.{◌≡◌, ℕ, zero, suc, ◌+◌, ◌%◌, ◌<◌, Bool, true, false, List, [], ◌∷◌, ◌++◌, take, Option, Some, None, Result, Ok, Err, inl, inr, refl, sym, ◌∙◌, ap, arith}
+use Rattle.std.proofs.Common.{◌≡◌, ℕ, zero, suc, ◌%◌, ◌<◌, Bool, true, false, List, [], ◌∷◌, ◌++◌, take, Some, None, Result, Ok, Err, inl, inr, refl, sym, ◌∙◌, ap, arith}
 use Rattle.std.specs.Prelude.{IsSomeAnd, slice_index}
 use Rattle.std.specs.Bool.{MatchBool}
 use Rattle.std.specs.FinMap as finite
@@ -7,7 +7,7 @@ use Rattle.std.specs.Str.{bytes_eq}
 use Rattle.outside.specs.declared.fault.FileFault.{FileFault}
 use Rattle.outside.specs.declared.fault.FileFault.TheVariants.{Failed, NoMemory}
 use Rattle.outside.specs.Bytes.{AreBytes, as_bytes, content_as_bytes, held_as_bytes}
-use Rattle.outside.specs.Files.{Content, WriteKind, Append, Replace, bytes_in, IsAppended, ReadsAfter, Wrote}
+use Rattle.outside.specs.Files.{Content, WriteKind, Append, Replace, bytes_in, ReadsAfter, Wrote}
 use Rattle.outside.specs.MemFiles.{Contents}
 
 -- ---- lists

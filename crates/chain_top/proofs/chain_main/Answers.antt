@@ -1,6 +1,4 @@
 use Rattle.std.proofs.Common.{List, map, string_bytes}
-use Rattle.chain_top.specs.Answer.{World, world}
-use Rattle.chain_top.specs.Headline.{DoesReply}
 use Rattle.chain_top.specs.Word.{Word}
 use Rattle.chain_top.proofs.Headline.{does-reply, grows-ledger, is-complete}
 use Rattle.chain_top.proofs.chain_main.Goals as goal

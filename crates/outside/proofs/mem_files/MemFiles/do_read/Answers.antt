@@ -1,4 +1,4 @@
-use Rattle.std.proofs.Common.{◌≡◌, ◌+◌, List, take, Some, subst}
+use Rattle.std.proofs.Common.{◌≡◌, ◌+◌, take, Some, subst}
 use Rattle.std.specs.Prelude.{IsSomeAnd}
 use Rattle.std.specs.FinMap as finite
 use Rattle.outside.specs.Bytes.{content_as_bytes}
