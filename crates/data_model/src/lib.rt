@@ -26,6 +26,3 @@ pub use output::{Control, Output, Retire};
 pub use output_body::OutputBody;
 pub use tx::Tx;
 pub use wire::{Args, Bytes, DataFault, DataKind, Id, NoMemory};
-
-#[cfg(test)]
-mod tests;
