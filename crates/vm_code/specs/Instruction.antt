@@ -1,7 +1,6 @@
 -- The instruction that stands at a place of a program.
 use Rattle.std.specs.Prelude.{ℕ, ◌+◌, ◌*◌, ◌==◌, ◌||◌, ◌&&◌, Bool, List, [], ◌∷◌, length, take, drop, Result, Ok, Err}
 use Rattle.std.specs.Prelude.{if◌then◌else◌, nat_le}
-use Rattle.std.specs.List.{list_any}
 
 -- its code, the bytes that it pushes if it is a data code, where it jumps if it is a jump, and how many bytes it takes
 pub record Decoded : Type 0 where
@@ -20,17 +19,24 @@ abbrev pub little_endian : List ℕ → ℕ
 little_endian [] = 0
 little_endian (b ∷ bs) = b + 256 * little_endian bs
 
--- The codes with nothing behind them: 1 to 16; then FALSE, 1NEGATE; VERIFY, DROP, DUP, EQUAL; ADD, SUB, NUMEQUAL,
--- LESSTHAN; BLOCKHASH, PROGRAM, NEXTPROGRAM, BLOCKTIME.
+-- from one code up to another
+abbrev pub is_within : ℕ → ℕ → ℕ → Bool
+is_within from to code = nat_le from code && nat_le code to
+
+-- The codes with nothing behind them: FALSE; 1NEGATE; 1 to 16 and NOP; VERIFY to CATPUSHDATA; 1ADD to WITHIN; SHA256;
+-- BLOCKHASH; PROGRAM; NEXTPROGRAM and BLOCKTIME.
 abbrev pub is_plain : ℕ → Bool
 is_plain code =
-    (nat_le 0x51 code && nat_le code 0x60)
-    || list_any (λ c. c == code)
-    (0x00 ∷ 0x4f ∷ 0x69 ∷ 0x75 ∷ 0x76 ∷ 0x87 ∷ 0x93 ∷ 0x94 ∷ 0x9c ∷ 0x9f ∷ 0xaf ∷ 0xc4 ∷ 0xcd ∷ 0xce ∷ [])
+    code == 0x00 || code == 0x4f || is_within 0x51 0x61 code || is_within 0x69 0x89 code || is_within 0x8b 0xa5 code
+    || code == 0xa8 || code == 0xaf || code == 0xc4 || is_within 0xcd 0xce code
+
+-- JUMP and JUMPIF
+abbrev pub is_jump : ℕ → Bool
+is_jump code = is_within 0x63 0x64 code
 
 -- the code is the number of data bytes
 abbrev pub is_data : ℕ → Bool
-is_data code = nat_le 0x01 code && nat_le code 0x4b
+is_data code = is_within 0x01 0x4b code
 
 abbrev pub plain : ℕ → Decoded
 plain code = record { code = code; pushed = []; target = 0; len = 1 }
@@ -47,6 +53,13 @@ abbrev pub counted_at : ℕ → ℕ → List ℕ → Result Decoded Misread
 counted_at code field behind =
     if nat_le field (length behind) then data_at code field (little_endian (take field behind)) behind else Err Short
 
+-- the place that a jump leads to, in four bytes, little-endian
+abbrev pub jump_at : ℕ → List ℕ → Result Decoded Misread
+jump_at code behind =
+    if nat_le 4 (length behind)
+    then Ok (record { code = code; pushed = []; target = little_endian (take 4 behind); len = 5 })
+    else Err Short
+
 -- A code and the bytes behind it. PUSHDATA1, PUSHDATA2 and PUSHDATA4 are 4c, 4d and 4e.
 abbrev pub decoded : ℕ → List ℕ → Result Decoded Misread
 decoded code behind =
@@ -54,7 +67,8 @@ decoded code behind =
     else (if code == 0x4c then counted_at code 1 behind
     else (if code == 0x4d then counted_at code 2 behind
     else (if code == 0x4e then counted_at code 4 behind
-    else (if is_plain code then Ok (plain code) else Err BadOpcode))))
+    else (if is_jump code then jump_at code behind
+    else (if is_plain code then Ok (plain code) else Err BadOpcode)))))
 
 -- the first byte is the code
 abbrev pub decoded_front : List ℕ → Result Decoded Misread

@@ -1,6 +1,6 @@
-// The data codes: so many bytes behind the code, which are pushed.
+// What stands behind a code: the bytes that a data code pushes, or the place that a jump leads to.
 ghost use Rattle.std.specs.Prelude.{◌≡◌, ◌<◌, ◌≤◌, ◌^◌, ◌+◌, length, IfOk};
-ghost use Rattle.vm_code.specs.Instruction.{data_at, counted_at, little_endian};
+ghost use Rattle.vm_code.specs.Instruction.{data_at, counted_at, jump_at, little_endian};
 ghost use Rattle.vm_code.specs.Seen.{Reads};
 
 use crate::{CodeFault, Instruction};
@@ -16,6 +16,7 @@ pub fn counted_data(
     requires count { count < 2 ^ 32 }
     ensures reads { Reads result (data_at code field count behind.now) }
     ensures within { IfOk result (λ i. (0 < i.len) × (i.len ≤ 1 + length behind.now)) }
+    ensures target { IfOk result (λ i. i.target < 2 ^ 32) }
 {
     let end = field + count as usize;
     if end > behind.len() {
@@ -34,20 +35,38 @@ pub fn counted(code: u8, field: usize, behind: &[u8]) -> Result<Instruction<'_>,
     requires { field ≤ 4 }
     ensures reads { Reads result (counted_at code field behind.now) }
     ensures within { IfOk result (λ i. (0 < i.len) × (i.len ≤ 1 + length behind.now)) }
+    ensures target { IfOk result (λ i. i.target < 2 ^ 32) }
 {
     if field > behind.len() {
         return Err(CodeFault::Short);
     }
-    counted_data(code, field, low_first(&behind[..field]), behind)
+    counted_data(code, field, low_first(&behind[..field]) as u64, behind)
 }
 
-fn low_first(bytes: &[u8]) -> u64
+// The place stands in four bytes, its lowest byte first.
+pub fn jump(code: u8, behind: &[u8]) -> Result<Instruction<'_>, CodeFault>
+    ensures reads { Reads result (jump_at code behind.now) }
+    ensures within { IfOk result (λ i. (0 < i.len) × (i.len ≤ 1 + length behind.now)) }
+    ensures target { IfOk result (λ i. i.target < 2 ^ 32) }
+{
+    if behind.len() < 4 {
+        return Err(CodeFault::Short);
+    }
+    Ok(Instruction {
+        code,
+        pushed: &[],
+        target: low_first(&behind[..4]),
+        len: 5,
+    })
+}
+
+fn low_first(bytes: &[u8]) -> u32
     requires { length bytes.now ≤ 4 }
     ensures value { result ≡ little_endian bytes.now }
     ensures bound { result < 256 ^ length bytes.now }
 {
     match bytes {
         [] => 0,
-        [low, high @ ..] => *low as u64 + 256 * low_first(high),
+        [low, high @ ..] => *low as u32 + 256 * low_first(high),
     }
 }

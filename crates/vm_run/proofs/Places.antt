@@ -3,7 +3,7 @@ use Rattle.std.proofs.Common.{◌≡◌, ℕ, eqb, ltb, ◌++◌, refl, Bool, tr
 use Rattle.std.proofs.lemmas.Bool.{cond_both, leb-true}
 use Rattle.vm_num.specs.Item.{Item, total_cost}
 use Rattle.vm_num.specs.declared.failure.Failure.TheVariants.{RunLimit}
-use Rattle.vm_code.specs.Instruction.{Decoded, Misread, BadOpcode, plain, instruction_at, decoded, data_at, counted_at, is_data, is_plain, little_endian}
+use Rattle.vm_code.specs.Instruction.{Decoded, Misread, BadOpcode, plain, instruction_at, decoded, data_at, counted_at, jump_at, is_data, is_jump, is_plain, little_endian}
 use Rattle.vm_code.proofs.Front.{instruction_at-code}
 use Rattle.vm_run.specs.Row.{Context, Check, Row, Faults, Does, Effect, row}
 use Rattle.vm_run.specs.Run.{Move, Stops, Goes, move, instruction_move, row_move, paid}
@@ -20,6 +20,9 @@ counted_at-takes : (code field : ℕ) (behind : List ℕ) → Takes (1 + length 
 counted_at-takes code field behind =
     cond_both (leb field (length behind)) _ _ (Takes (1 + length behind)) (λ fits. data_at-takes code field (little_endian (take field behind)) behind) (λ short. tt)
 
+jump_at-takes : (code : ℕ) (behind : List ℕ) → Takes (1 + length behind) (jump_at code behind)
+jump_at-takes code behind = cond_both (leb 4 (length behind)) _ _ (Takes (1 + length behind)) (λ fits. omega (arith, leb-true _ _ fits)) (λ short. tt)
+
 either : (room : ℕ) (b : Bool) (x y : Result Decoded Misread) → Takes room x → Takes room y → Takes room (cond b x y)
 either room true x y p q = p
 either room false x y p q = q
@@ -28,15 +31,17 @@ decoded-takes : (code : ℕ) (behind : List ℕ) → Takes (1 + length behind) (
 decoded-takes code behind =
     let room = 1 + length behind in
     let plain_or_bad = cond (is_plain code) (Ok (plain code)) (Err BadOpcode) in
-    let from_4 = cond (eqb code 78) (counted_at code 4 behind) plain_or_bad in
+    let from_jump = cond (is_jump code) (jump_at code behind) plain_or_bad in
+    let from_4 = cond (eqb code 78) (counted_at code 4 behind) from_jump in
     let from_2 = cond (eqb code 77) (counted_at code 2 behind) from_4 in
     let from_1 = cond (eqb code 76) (counted_at code 1 behind) from_2 in
     let one : 1 ≤ 1 + length behind = omega arith in
     either room (is_data code) (data_at code 0 code behind) from_1 (data_at-takes code 0 code behind)
     (either room (eqb code 76) (counted_at code 1 behind) from_2 (counted_at-takes code 1 behind)
     (either room (eqb code 77) (counted_at code 2 behind) from_4 (counted_at-takes code 2 behind)
-    (either room (eqb code 78) (counted_at code 4 behind) plain_or_bad (counted_at-takes code 4 behind)
-    (either room (is_plain code) (Ok (plain code)) (Err BadOpcode) one tt))))
+    (either room (eqb code 78) (counted_at code 4 behind) from_jump (counted_at-takes code 4 behind)
+    (either room (is_jump code) (jump_at code behind) plain_or_bad (jump_at-takes code behind)
+    (either room (is_plain code) (Ok (plain code)) (Err BadOpcode) one tt)))))
 
 instruction_at-takes : (program : List ℕ) (place : ℕ) → place < length program → Takes (length program - place) (instruction_at program place)
 instruction_at-takes program place below =

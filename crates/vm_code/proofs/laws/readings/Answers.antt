@@ -1,0 +1,5 @@
+use Rattle.vm_code.proofs.Longer.{within, begun, fronted}
+use Rattle.vm_code.proofs.laws.readings.Goals as goal
+
+pub returns : goal.returns
+returns c = record { within = within; begun = begun; fronted = fronted }
