@@ -1,3 +1,16 @@
+pub mod Again
+pub mod Alike
+pub mod Assembling
+pub mod Colons
+pub mod Decimals
+pub mod Existing
 pub mod Front
+pub mod Hexes
+pub mod Listing
 pub mod Longer
+pub mod Named
 pub mod Powers
+pub mod Shapes
+pub mod Splits
+pub mod WordTexts
+pub mod Worded

@@ -2,13 +2,17 @@
 #![tactic(auto)]
 
 ghost use Rattle.std.specs.Prelude.{◌≡◌, ◌<◌, ◌≤◌, ◌+◌, ◌^◌, length, IfOk};
-ghost use Rattle.vm_code.specs.Instruction.{instruction_at, decoded, is_plain, is_jump};
+ghost use Rattle.vm_code.specs.Instruction.{instruction_at, decoded, is_plain};
 ghost use Rattle.vm_code.specs.Seen.{Reads};
 
+mod assembler;
 pub mod codes;
 mod data;
 pub mod laws;
+mod names;
+mod word;
 
+pub use assembler::{AsmFault, assemble, disassemble};
 use codes::{
     ADD_ONE, BLOCKHASH, BLOCKTIME, CATPUSHDATA, DATA_MAX, DATA_MIN, FALSE, JUMP, JUMPIF,
     NEGATIVE_ONE, NEXTPROGRAM, NOP, ONE, PROGRAM, PUSHDATA1, PUSHDATA2, PUSHDATA4, SHA256, VERIFY,

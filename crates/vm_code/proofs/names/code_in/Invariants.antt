@@ -1,0 +1,6 @@
+use Rattle.std.proofs.Common.{◌≡◌, drop, map}
+use Rattle.vm_code.specs.Names.{code_in}
+use Rattle.vm_code.proofs.names.code_in.Given as goal
+
+abbrev pub invariant-loop-line : goal.invariant-loop-line
+invariant-loop-line l = code_in (map (λ line. (line.0, line.1.now)) (drop l.line-index l.lines)) l.name ≡ code_in (map (λ line. (line.0, line.1.now)) l.lines) l.name

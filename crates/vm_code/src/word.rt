@@ -1,0 +1,184 @@
+// Words of assembler text: an instruction each.
+ghost use Rattle.std.specs.Prelude.{◌≡◌, ◌+◌, ◌<◌, ◌^◌, IfOk, IfSome, vec_len};
+ghost use Rattle.std.specs.List.{list_all};
+ghost use Rattle.std.specs.Option.{option_and_then, option_map};
+ghost use Rattle.std.specs.Char.{is_ascii_digit};
+ghost use Rattle.vm_code.specs.Instruction.{is_plain};
+ghost use Rattle.vm_code.specs.Names.{code_of};
+ghost use Rattle.vm_code.specs.Text.{field_len};
+ghost use Rattle.vm_code.specs.Word.{word_read, with_argument, named, data_of, counted, hex_read, place_read, is_decimal};
+ghost use Rattle.vm_code.specs.Word.{is_lower_digit, jump, without_argument, behind_0x};
+ghost use Rattle.vm_code.specs.Written.{Says};
+
+use crate::codes::{DATA_MAX, DATA_MIN, JUMP, JUMPIF, PUSHDATA1, PUSHDATA2, PUSHDATA4};
+use crate::is_plain;
+use crate::names::code_of;
+use std::alloc::{AllocError, Global};
+
+/// An instruction that a word says: its code, what it pushes and where it jumps, as of one that was read.
+#[derive(Drop)]
+pub struct Word {
+    pub code: u8,
+    pub pushed: Vec<u8>,
+    pub target: u32,
+}
+
+/// The instruction whose text a word is, or none.
+pub fn read_word(alloc: Global, word: &str) -> Result<Option<Word>, AllocError>
+    ensures reads { IfOk result (λ said. Says said (word_read word.now)) }
+    ensures small { IfOk result (λ said. IfSome said (λ said. vec_len said.pushed < 2 ^ 32)) }
+{
+    match word.split_once(':') {
+        Some((name, argument)) => with_argument(alloc, code_of(name), argument),
+        None => without_argument(alloc, word),
+    }
+}
+
+fn with_argument(
+    alloc: Global,
+    code: Option<u8>,
+    argument: &str,
+) -> Result<Option<Word>, AllocError>
+    ensures reads { IfOk result (λ said. Says said (with_argument code argument.now)) }
+    ensures small { IfOk result (λ said. IfSome said (λ said. vec_len said.pushed < 2 ^ 32)) }
+{
+    match code {
+        Some(PUSHDATA1) => counted(alloc, PUSHDATA1, 0xff, argument),
+        Some(PUSHDATA2) => counted(alloc, PUSHDATA2, 0xffff, argument),
+        Some(PUSHDATA4) => counted(alloc, PUSHDATA4, 0xffff_ffff, argument),
+        Some(code @ (JUMP | JUMPIF)) => Ok(jump(alloc, code, argument)),
+        _ => Ok(None),
+    }
+}
+
+fn without_argument(alloc: Global, word: &str) -> Result<Option<Word>, AllocError>
+    ensures reads { IfOk result (λ said. Says said (without_argument (behind_0x word.now) word.now)) }
+    ensures small { IfOk result (λ said. IfSome said (λ said. vec_len said.pushed < 2 ^ 32)) }
+{
+    match behind_0x(word.as_bytes()) {
+        Some(digits) => data(alloc, digits),
+        None => Ok(named(alloc, code_of(word))),
+    }
+}
+
+fn behind_0x(word: &[u8]) -> Option<&[u8]>
+    ensures { option_map (λ digits. digits.now) result ≡ behind_0x word.now }
+{
+    match word {
+        [b'0', b'x', digits @ ..] => Some(digits),
+        _ => None,
+    }
+}
+
+// The word of a name alone.
+fn named(alloc: Global, code: Option<u8>) -> Option<Word>
+    ensures reads { Says result (named code) }
+    ensures small { IfSome result (λ said. vec_len said.pushed < 2 ^ 32) }
+{
+    match code {
+        Some(code) if is_plain(code) => Some(Word {
+            code,
+            pushed: Vec::new(alloc),
+            target: 0,
+        }),
+        _ => None,
+    }
+}
+
+// The bytes are as many as their code says.
+fn data(alloc: Global, digits: &[u8]) -> Result<Option<Word>, AllocError>
+    ensures reads { IfOk result (λ said. Says said (option_and_then data_of (hex_read digits.now))) }
+    ensures small { IfOk result (λ said. IfSome said (λ said. vec_len said.pushed < 2 ^ 32)) }
+{
+    let Some(pushed) = lower_hex(alloc, digits)? else {
+        return Ok(None);
+    };
+    let len = pushed.len();
+    if len < DATA_MIN as usize || len > DATA_MAX as usize {
+        return Ok(None);
+    }
+    Ok(Some(Word {
+        code: len as u8,
+        pushed,
+        target: 0,
+    }))
+}
+
+// At most so many bytes.
+fn counted(alloc: Global, code: u8, most: usize, argument: &str) -> Result<Option<Word>, AllocError>
+    requires count { most + 1 ≡ 256 ^ field_len code }
+    requires small { most < 2 ^ 32 }
+    ensures reads { IfOk result (λ said. Says said (option_and_then (counted code) (hex_read argument.now))) }
+    ensures small { IfOk result (λ said. IfSome said (λ said. vec_len said.pushed < 2 ^ 32)) }
+{
+    match lower_hex(alloc, argument.as_bytes())? {
+        Some(pushed) if pushed.len() <= most => Ok(Some(Word {
+            code,
+            pushed,
+            target: 0,
+        })),
+        _ => Ok(None),
+    }
+}
+
+fn jump(alloc: Global, code: u8, argument: &str) -> Option<Word>
+    ensures reads { Says result (option_map (jump code) (place_read argument.now)) }
+    ensures small { IfSome result (λ said. vec_len said.pushed < 2 ^ 32) }
+{
+    let target = decimal(argument)?;
+    Some(Word {
+        code,
+        pushed: Vec::new(alloc),
+        target,
+    })
+}
+
+// The bytes of hex in lower case, or that it is none.
+#[tactic(auto, unfolding(crate::specs::Word::hex_read))]
+fn lower_hex(alloc: Global, digits: &[u8]) -> Result<Option<Vec<u8>>, AllocError>
+    ensures { IfOk result (λ bytes. option_map (λ bytes. bytes.items) bytes ≡ hex_read digits.now) }
+{
+    if !are_lower_digits(digits) {
+        return Ok(None);
+    }
+    match hex::decode(alloc, digits) {
+        Ok(bytes) => Ok(Some(bytes)),
+        Err(hex::FromHexError::OutOfMemory) => Err(AllocError),
+        Err(_) => Ok(None),
+    }
+}
+
+fn are_lower_digits(digits: &[u8]) -> bool
+    ensures { result ≡ list_all is_lower_digit digits.now }
+{
+    digits
+        .iter()
+        .all(|c| matches!(c, b'0'..=b'9' | b'a'..=b'f'))
+}
+
+// The number below 2^32 of digits without a leading zero.
+#[tactic(auto, unfolding(crate::specs::Word::place_read))]
+fn decimal(digits: &str) -> Option<u32>
+    ensures { result ≡ place_read digits.now }
+{
+    if !is_decimal(digits.as_bytes()) {
+        return None;
+    }
+    digits.parse::<u32>().ok()
+}
+
+fn is_decimal(digits: &[u8]) -> bool
+    ensures { result ≡ is_decimal digits.now }
+{
+    match digits {
+        [b'0'] => true,
+        [b'1'..=b'9', rest @ ..] => are_digits(rest),
+        _ => false,
+    }
+}
+
+fn are_digits(digits: &[u8]) -> bool
+    ensures { result ≡ list_all is_ascii_digit digits.now }
+{
+    digits.iter().all(|d| d.is_ascii_digit())
+}
