@@ -55,7 +55,7 @@ pub fn disassemble(alloc: Global, program: &[u8]) -> Result<String, CodeFault>
     Ok(text)
 }
 
-// Adds the text of an instruction, behind a space where words stand before it.
+// Adds the text of an instruction.
 fn put_word(alloc: Global, text: &mut String, i: &Instruction<'_>) -> Result<(), AllocError>
     ensures { OnOk result (string_bytes text.new ≡ with_word (string_bytes text.old) (text_of (seen i.now))) }
 {
@@ -63,6 +63,7 @@ fn put_word(alloc: Global, text: &mut String, i: &Instruction<'_>) -> Result<(),
     put_behind(text, word.as_str())
 }
 
+// Adds a word, behind a space where words stand before it.
 fn put_behind(text: &mut String, word: &str) -> Result<(), AllocError>
     ensures { OnOk result (string_bytes text.new ≡ with_word (string_bytes text.old) word.now) }
 {
@@ -92,12 +93,14 @@ fn word_of(alloc: Global, i: &Instruction<'_>) -> Result<String, AllocError>
     }
 }
 
+// A name with hex.
 fn push_of(alloc: Global, name: &str, hex: &str) -> Result<String, AllocError>
     ensures { IfOk result (λ word. string_bytes word ≡ name.now ++ codes ":" ++ hex.now) }
 {
     format!(in alloc; "{name}:{hex}")
 }
 
+// A name with a place.
 fn jump_of(alloc: Global, name: &str, target: u32) -> Result<String, AllocError>
     ensures { IfOk result (λ word. string_bytes word ≡ name.now ++ codes ":" ++ decimal target) }
 {

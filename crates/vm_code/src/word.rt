@@ -34,6 +34,7 @@ pub fn read_word(alloc: Global, word: &str) -> Result<Option<Word>, AllocError>
     }
 }
 
+// The word of a name, a colon and an argument.
 fn with_argument(
     alloc: Global,
     code: Option<u8>,
@@ -51,6 +52,7 @@ fn with_argument(
     }
 }
 
+// A word without a colon.
 fn without_argument(alloc: Global, word: &str) -> Result<Option<Word>, AllocError>
     ensures reads { IfOk result (λ said. Says said (without_argument (behind_0x word.now) word.now)) }
     ensures small { IfOk result (λ said. IfSome said (λ said. vec_len said.pushed < 2 ^ 32)) }
@@ -70,7 +72,7 @@ fn behind_0x(word: &[u8]) -> Option<&[u8]>
     }
 }
 
-// The word of a name alone.
+// It is a name alone.
 fn named(alloc: Global, code: Option<u8>) -> Option<Word>
     ensures reads { Says result (named code) }
     ensures small { IfSome result (λ said. vec_len said.pushed < 2 ^ 32) }
@@ -85,7 +87,7 @@ fn named(alloc: Global, code: Option<u8>) -> Option<Word>
     }
 }
 
-// The bytes are as many as their code says.
+// It is bytes, as many as their code says.
 fn data(alloc: Global, digits: &[u8]) -> Result<Option<Word>, AllocError>
     ensures reads { IfOk result (λ said. Says said (option_and_then data_of (hex_read digits.now))) }
     ensures small { IfOk result (λ said. IfSome said (λ said. vec_len said.pushed < 2 ^ 32)) }
@@ -104,7 +106,7 @@ fn data(alloc: Global, digits: &[u8]) -> Result<Option<Word>, AllocError>
     }))
 }
 
-// At most so many bytes.
+// The argument is bytes, at most so many.
 fn counted(alloc: Global, code: u8, most: usize, argument: &str) -> Result<Option<Word>, AllocError>
     requires count { most + 1 ≡ 256 ^ field_len code }
     requires small { most < 2 ^ 32 }
@@ -121,6 +123,7 @@ fn counted(alloc: Global, code: u8, most: usize, argument: &str) -> Result<Optio
     }
 }
 
+// The argument is a place.
 fn jump(alloc: Global, code: u8, argument: &str) -> Option<Word>
     ensures reads { Says result (option_map (jump code) (place_read argument.now)) }
     ensures small { IfSome result (λ said. vec_len said.pushed < 2 ^ 32) }
