@@ -3,8 +3,8 @@ use std::alloc::Global;
 use std::test::Fail;
 use vm_code::{AsmFault, assemble, disassemble, next};
 
-// A program and a place, and then the code, the pushed bytes, the jump's place and the length that stand there, read off
-// by hand, or why none does.
+// A program and a place, and then the code, the pushed bytes, the place of a jump and the length that stand there, read
+// off by hand, or why none does.
 const PLACES: &str = "510093 1 00 - 0 1
 5193aa 1 93 - 0 1
 519302a1a251 2 02 a1a2 0 3

@@ -32,10 +32,11 @@ pub record InstructionLaws : Type 0 where
       → instruction_at (front ++ bytes_of d ++ behind) (length front) ≡ Ok d
   -- no two have the same text
   pub one_text : (d e : Decoded) → IsInstruction d → IsInstruction e → text_of d ≡ text_of e → d ≡ e
-  -- the table names the codes that are plain, jump, or have their count behind them, and no others; no two have one name
+  -- the table names the codes that are plain, jump, or have their count behind them, and no others
   pub named : (code : ℕ)
       → (is_plain code || is_jump code || is_counted code) ≡ true
       → code_of (name_of code) ≡ Some code
+  -- no two have one name
   pub one_name : (name : List ℕ) (code : ℕ)
       → code_of name ≡ Some code
       → (name_of code ≡ name) × ((is_plain code || is_jump code || is_counted code) ≡ true)

@@ -2,7 +2,7 @@
 use Rattle.std.specs.Prelude.{ℕ, ◌==◌, List, [], ◌∷◌, Option, codes, option_map, bytes_eq, unwrap_or}
 use Rattle.std.specs.List.{find}
 
--- each code but the data codes, and its name
+-- each code but 01 to 4b, which are the number of bytes that they push, and its name
 unfoldable pub names : List (ℕ × List ℕ)
 names =
     (0x00, codes "FALSE") ∷ (0x4c, codes "PUSHDATA1") ∷ (0x4d, codes "PUSHDATA2") ∷ (0x4e, codes "PUSHDATA4")
@@ -32,7 +32,7 @@ names =
 abbrev pub name_in : List (ℕ × List ℕ) → ℕ → List ℕ
 name_in lines code = unwrap_or (option_map (λ line. line.1) (find (λ line. line.0 == code) lines)) []
 
--- the code that a name is of
+-- the code of a name
 abbrev pub code_in : List (ℕ × List ℕ) → List ℕ → Option ℕ
 code_in lines name = option_map (λ line. line.0) (find (λ line. bytes_eq line.1 name) lines)
 

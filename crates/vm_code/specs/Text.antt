@@ -1,5 +1,6 @@
 -- The bytes of an instruction, and its assembler text.
-use Rattle.std.specs.Prelude.{◌≡◌, ℕ, ◌==◌, ◌||◌, Bool, List, ◌∷◌, ◌++◌, length, take, Ok, if◌then◌else◌, codes, decimal}
+use Rattle.std.specs.Prelude.{◌≡◌, ℕ, ◌==◌, ◌||◌, Bool, List, ◌∷◌, ◌++◌, length, take, Ok, if◌then◌else◌}
+use Rattle.std.specs.Prelude.{codes, decimal}
 use Rattle.std.specs.Int.{w32, to_le_bytes}
 use Rattle.hex.specs.Hex.{encode_lower, IsBytes}
 use Rattle.vm_code.specs.Instruction.{Decoded, decoded_front, is_within, is_data, is_jump}

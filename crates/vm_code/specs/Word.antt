@@ -1,4 +1,5 @@
--- How the assembler reads a word.
+-- How the assembler reads a word. It stands between the contracts of the assembler's parts and what `assemble` says of
+-- texts, which does not name it: that it reads exactly the texts of instructions is proved.
 use Rattle.std.specs.Prelude.{ℕ, ◌+◌, ◌^◌, ◌==◌, ◌&&◌, ◌||◌, Bool, true, false, List, [], ◌∷◌, length, Option, Some}
 use Rattle.std.specs.Prelude.{None, if◌then◌else◌, nat_lt, option_map}
 use Rattle.std.specs.List.{list_all}

@@ -108,7 +108,8 @@ fn jump_of(alloc: Global, name: &str, target: u32) -> Result<String, AllocError>
 }
 
 /// The program of an assembler text. Of a text that is none the fault is told with the first byte of the first word
-/// that is none; between two spaces in a row, before a space at the start and behind one at the end stands an empty word.
+/// that is none. An empty word is none: it stands between two spaces in a row, before one at the start, behind one at
+/// the end.
 pub fn assemble(alloc: Global, text: &str) -> Result<Vec<u8>, AsmFault>
     ensures program { IfOk result (λ program. IsAssembly text.now program.items) }
     ensures fault { IfErr result (λ fault. IsBad text.now fault) }

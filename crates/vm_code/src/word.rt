@@ -6,8 +6,8 @@ ghost use Rattle.std.specs.Char.{is_ascii_digit};
 ghost use Rattle.vm_code.specs.Instruction.{is_plain};
 ghost use Rattle.vm_code.specs.Names.{code_of};
 ghost use Rattle.vm_code.specs.Text.{field_len};
-ghost use Rattle.vm_code.specs.Word.{word_read, with_argument, named, data_of, counted, hex_read, place_read, is_decimal};
-ghost use Rattle.vm_code.specs.Word.{is_lower_digit, jump, without_argument, behind_0x};
+ghost use Rattle.vm_code.specs.Word.{word_read, with_argument, without_argument, behind_0x, named, data_of, counted};
+ghost use Rattle.vm_code.specs.Word.{jump, hex_read, is_lower_digit, place_read, is_decimal};
 ghost use Rattle.vm_code.specs.Written.{Says};
 
 use crate::codes::{DATA_MAX, DATA_MIN, JUMP, JUMPIF, PUSHDATA1, PUSHDATA2, PUSHDATA4};
