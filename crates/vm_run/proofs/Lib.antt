@@ -1,8 +1,9 @@
-pub mod Moves
+pub mod Brought
+pub mod Fair
+pub mod Items
 pub mod Outcomes
 pub mod Payment
-pub mod Places
 pub mod Pushed
-pub mod Reversed
-pub mod Rows
 pub mod Runs
+pub mod Stretches
+pub mod Small

@@ -8,7 +8,12 @@ use Rattle.vm_num.specs.declared.failure.Failure.TheVariants.{RunLimit}
 use Rattle.vm_run.specs.declared.verdict.Verdict.{Verdict}
 use Rattle.vm_run.specs.declared.verdict.Verdict.TheVariants.{Failed}
 use Rattle.vm_run.specs.Verdict.{verdict_of, HasVerdict, not_covered, covered}
-use Rattle.vm_run.proofs.Places.{Leads, move-leads}
+use Rattle.vm_stack.specs.Stacks.{Stacks}
+use Rattle.vm_run.specs.declared.machine.Machine.{Machine}
+use Rattle.vm_run.specs.declared.run.End.{End}
+use Rattle.vm_run.specs.declared.run.End.TheVariants as ends
+use Rattle.vm_run.specs.Ends.{Ends, VerdictOf, VerdictFrom}
+use Rattle.std.proofs.Common.{subst, Result, Ok, Err, IfOk}
 use Rattle.vm_run.proofs.Runs as runs
 use Rattle.vm_run.proofs.Runs.{Keeps, move-keeps}
 
@@ -19,23 +24,23 @@ module _ (context : Context) (check : Check) (program : List ℕ) where
 
   -- from every place, where the limit and the items come to less than n together
   abbrev Below : ℕ → Type 0
-  Below n = (place : ℕ) (items alt : List Item) (limit : ℕ) → place ≤ length program → limit + total_cost items < n → Some place items alt limit
+  Below n = (place : ℕ) (items alt : List Item) (limit : ℕ) → place ≤ length program → limit + (total_cost items + total_cost alt) < n → Some place items alt limit
 
-  from_move : (n place : ℕ) (items alt : List Item) (limit : ℕ) → Below n → place < length program → limit + total_cost items < suc n → (m : Move) → move context check program place items alt limit ≡ m → Keeps items alt limit m → Leads (length program) m → Some place items alt limit
-  from_move n place items alt limit below before less (Stops kind) is keeps leads = (FailedAt kind place 0, fails before is)
-  from_move n place items alt limit below before less (Goes next items' alt' left base) is keeps leads =
-      let rest = below next items' alt' left leads (omega (arith, keeps.1, keeps.2)) in
+  from_move : (n place : ℕ) (items alt : List Item) (limit : ℕ) → Below n → place < length program → limit + (total_cost items + total_cost alt) < suc n → (m : Move) → move context check program place items alt limit ≡ m → Keeps (length program) items alt limit m → Some place items alt limit
+  from_move n place items alt limit below before less (Stops kind) is keeps = (FailedAt kind place 0, fails before is)
+  from_move n place items alt limit below before less (Goes next items' alt' left base) is keeps =
+      let rest = below next items' alt' left keeps.2 (omega (arith, keeps.0, keeps.1)) in
       (one_more base rest.0, goes_on before is rest.1 refl)
 
   below_all : (n : ℕ) → Below n
   below_all zero place items alt limit within less = absurd (omega arith)
   below_all (suc n) place items alt limit within less = elim (cases_lt place (length program)) [
-    | inl before ↦ from_move n place items alt limit (below_all n) before less _ refl (move-keeps context check program place items alt limit) (move-leads context check program place items alt limit before)
+    | inl before ↦ from_move n place items alt limit (below_all n) before less _ refl (move-keeps context check program place items alt limit)
     | inr end ↦ (Ended limit items alt 0 0 0, at_end (omega arith))
   ]
 
   pub some_outcome : (place : ℕ) (items alt : List Item) (limit : ℕ) → place ≤ length program → Some place items alt limit
-  some_outcome place items alt limit within = below_all (suc (limit + total_cost items)) place items alt limit within (omega arith)
+  some_outcome place items alt limit within = below_all (suc (limit + (total_cost items + total_cost alt))) place items alt limit within (omega arith)
 
   pub some_verdict : (args : List Item) (limit : ℕ) → (verdict : Verdict) × HasVerdict context check program args limit verdict
   some_verdict args limit = elim (cases_lt limit (total_cost args)) [
@@ -48,3 +53,21 @@ module _ (context : Context) (check : Check) (program : List ℕ) where
   one_verdict args limit a b (not_covered short is) (covered covers run) = absurd (omega arith)
   one_verdict args limit a b (covered covers run) (not_covered short is) = absurd (omega arith)
   one_verdict args limit a b (covered covers run) (covered again other) = run.2 ∙ ap (verdict_of (length program)) (runs.one_outcome run.1 other.1) ∙ sym other.2
+
+-- ---- the verdict on a program and its arguments
+
+pub verdict_on : (context : Context) (check : Check) (program : List ℕ) (args : List Item) (limit left : ℕ) (verdict : Verdict) → total_cost args ≤ limit → left ≡ limit - total_cost args → VerdictFrom context check program (reverse args) left verdict → HasVerdict context check program args limit verdict
+verdict_on context check program args limit left verdict covers rest says =
+    covered covers (subst (λ (n : ℕ). VerdictFrom context check program (reverse args) n verdict) rest says)
+
+pub for_ok : {T E : Type 0} {P Q : T → Type 0} (r : Result T E) → ((x : T) → P x → Q x) → IfOk r P → IfOk r Q
+for_ok (Ok x) each p = each x p
+for_ok (Err e) each p = tt
+
+pub from_run : (context : Context) (check : Check) (program : List ℕ) (items : List Item) (left : ℕ) (s : Stacks) (m : Machine) (end : End) (verdict : Verdict) → s ≡ record { items = items; alt = [] } → Ends context check program (record { stack = s; left = left; at = 0 }) (Ok end) m → VerdictOf (length program) end m verdict → VerdictFrom context check program items left verdict
+from_run context check program items left s m ends.Ended verdict piled run says =
+    let o = Ended m.left m.stack.items m.stack.alt run.0 run.1 0 in
+    (o, subst (λ (t : Stacks). Run context check program 0 t.items t.alt left o) piled run.2, says run.0 run.1)
+from_run context check program items left s m (ends.Failed kind at) verdict piled run says =
+    let o = FailedAt kind at run.0 in
+    (o, subst (λ (t : Stacks). Run context check program 0 t.items t.alt left o) piled run.1, says run.0)

@@ -1,16 +1,43 @@
 -- Payment for an effect, by cases.
-use Rattle.std.proofs.Common.{◌≡◌, ℕ, ◌+◌, ◌-◌, ◌<◌, ◌≤◌, List, ◌++◌, length, drop, arith}
+use Rattle.std.proofs.Common.{◌≡◌, ℕ, ◌+◌, ◌-◌, ◌<◌, ◌≤◌, List, ◌++◌, take, drop, refl, ap, Ok, Err, arith}
 use Rattle.std.proofs.lemmas.Bool.Decides.{nat_tests}
-use Rattle.vm_num.specs.Item.{Item, total_cost}
+use Rattle.std.proofs.lemmas.List.Sums.{sum_by-take-drop}
+use Rattle.vm_num.specs.Item.{Item, cost, total_cost}
 use Rattle.vm_num.specs.declared.failure.Failure.TheVariants.{RunLimit}
-use Rattle.vm_run.specs.Run.{Stops, Goes, paid}
+use Rattle.vm_run.specs.Effect.{Effect, effect, does}
+use Rattle.vm_run.specs.declared.machine.Machine.{Machine}
+use Rattle.vm_run.specs.declared.fault.StepFault.TheVariants.{Failed}
+use Rattle.vm_run.specs.Run.{Stops, Goes, paid, popped_cost, pushed_cost, next_place}
+use Rattle.vm_run.specs.Follows.{base_of, Follows}
 
-module _ (place limit base : ℕ) (items alt popped pushed : List Item) where
-  pub short_of_base : limit < base → paid place items alt limit (record { popped = popped; pushed = pushed; base = base }) ≡ Stops RunLimit
+module _ (behind limit : ℕ) (items alt : List Item) (e : Effect) where
+  pub short_of_base : limit < e.base → paid behind items alt limit e ≡ Stops RunLimit
   short_of_base short = grind (arith, nat_tests)
 
-  pub short_of_price : base ≤ limit → limit - base + total_cost popped < total_cost pushed → paid place items alt limit (record { popped = popped; pushed = pushed; base = base }) ≡ Stops RunLimit
+  pub short_of_price : e.base ≤ limit → limit + popped_cost e items alt < e.base + pushed_cost e → paid behind items alt limit e ≡ Stops RunLimit
   short_of_price covers short = grind (arith, nat_tests)
 
-  pub covered : base ≤ limit → total_cost pushed ≤ limit - base + total_cost popped → paid place items alt limit (record { popped = popped; pushed = pushed; base = base }) ≡ Goes place (pushed ++ drop (length popped) items) alt (limit - base + total_cost popped - total_cost pushed) base
+  pub covered : e.base ≤ limit → pushed_cost e ≤ limit - e.base + popped_cost e items alt → paid behind items alt limit e ≡ Goes (next_place behind e.jump) (e.pushed ++ drop e.pops items) (e.alt_pushed ++ drop e.alt_pops alt) (limit - e.base + popped_cost e items alt - pushed_cost e) e.base
   covered covers enough = grind (arith, nat_tests)
+
+  -- with this left behind it, and these stacks
+  pub pays : (left : ℕ) (items' alt' : List Item) → e.base ≤ limit → left + e.base + pushed_cost e ≡ limit + popped_cost e items alt → items' ≡ e.pushed ++ drop e.pops items → alt' ≡ e.alt_pushed ++ drop e.alt_pops alt → paid behind items alt limit e ≡ Goes (next_place behind e.jump) items' alt' left (base_of (paid behind items alt limit e))
+  pays left items' alt' covers sum on_items on_alt =
+      let rest : limit - e.base + popped_cost e items alt - pushed_cost e ≡ left = omega arith in
+      rw (covered covers (omega arith), rest, on_items, on_alt) refl
+
+pub cost-split : (n : ℕ) (items : List Item) → total_cost (take n items) + total_cost (drop n items) ≡ total_cost items
+cost-split n items = sum_by-take-drop cost items n
+
+-- ---- an effect on the data stack of a machine that goes on behind its instruction
+
+module _ (m m' : Machine) (n : ℕ) (pushed : List Item) (base : ℕ) where
+  pub done : base ≤ m.left → m'.left + base + total_cost pushed ≡ m.left + total_cost (take n m.stack.items) → m'.stack ≡ record m.stack { items = pushed ++ drop n m.stack.items } → m'.at ≡ m.at → Follows m (does n pushed base) (Ok tt) m'
+  done covers sum stack place =
+      rw place (pays m.at m.left m.stack.items m.stack.alt (effect n pushed base) m'.left m'.stack.items m'.stack.alt covers (omega arith) (ap (λ s. s.items) stack) (ap (λ s. s.alt) stack))
+
+  pub base_short : m.left < base → Follows m (does n pushed base) (Err (Failed RunLimit)) m'
+  base_short short = short_of_base m.at m.left m.stack.items m.stack.alt (effect n pushed base) short
+
+  pub price_short : base ≤ m.left → m.left + total_cost (take n m.stack.items) < base + total_cost pushed → Follows m (does n pushed base) (Err (Failed RunLimit)) m'
+  price_short covers short = short_of_price m.at m.left m.stack.items m.stack.alt (effect n pushed base) covers (omega arith)

@@ -133,7 +133,7 @@ read_push (b ∷ bs) h = elim (cases_lt 75 (length (b ∷ bs))) [
 
 row-data : (context : Context) (check : Check) (i : Decoded) (size : ℕ) (items alt : List Item) → i.code ≤ 78 → row context check i size items alt ≡ push_row i.pushed
 unfolding row
-row-data context check i size items alt data_code = rw (le-leb i.code 78 data_code)
+row-data context check i size items alt data_code = rw (le-leb i.code 96 (omega arith), le-leb i.code 78 data_code) refl
 
 pub reads_data : (item before after : List ℕ) → length item < 2 ^ 32 → ReadsData (instruction_at (before ++ push_of item ++ after) (length before)) item (length (push_of item))
 reads_data item before after h =
@@ -172,7 +172,7 @@ row_small : (context : Context) (check : Check) (n size : ℕ) (items alt : List
 unfolding row
 row_small context check n size items alt some small =
     let same : 80 + n - 80 ≡ n = omega arith in
-    rw (lt-leb (80 + n) 78 (omega arith)) (rw (ne_eqb (80 + n) 79 (omega arith)) (rw (le-leb 81 (80 + n) (omega arith)) (rw (le-leb (80 + n) 96 (omega arith)) (ap (λ k. push_row (num_bytes (pos k))) same))))
+    rw (le-leb (80 + n) 96 (omega arith), lt-leb (80 + n) 78 (omega arith), ne_eqb (80 + n) 79 (omega arith), ne_eqb (80 + n) 80 (omega arith), same) refl
 
 row_minus_one : (context : Context) (check : Check) (size : ℕ) (items alt : List Item) → row context check (plain 79) size items alt ≡ push_row (num_bytes (negsuc 0))
 unfolding row

@@ -1,9 +1,14 @@
-pub mod Gives
+pub mod Effect
+pub mod Ends
+pub mod Follows
+pub mod Laws
+pub mod Making
+pub mod Moving
 pub mod Operands
 pub mod Pushes
 pub mod Row
 pub mod Run
-pub mod Stack
+pub mod Stretch
 pub mod Verdict
 pub use Rattle.vm_code.specs.Instruction
 pub use Rattle.vm_num.specs.Item

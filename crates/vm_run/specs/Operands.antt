@@ -1,29 +1,56 @@
--- What the code answers for an instruction's operands, and for what it asks of the context.
-use Rattle.std.specs.Prelude.{◌≡◌, ◌<◌, ◌⊎◌, ℕ, ℤ, List, [], ◌∷◌, length, drop, Result, Ok, Err, Some, None}
+-- What the code reads off a data stack for a line, against what the line needs.
+use Rattle.std.specs.Prelude.{◌≡◌, ◌≤◌, ℕ, ℤ, List, ◌∷◌, length, drop, Result, Ok, Err}
 use Rattle.std.specs.Borrow.{Bor}
-use Rattle.vm_num.specs.Item.{Item, num}
-use Rattle.vm_num.specs.declared.failure.Failure.TheVariants.{Underflow, BadNumber}
-use Rattle.vm_num.specs.declared.failure.Failure.TheVariants as failures
-use Rattle.vm_run.specs.Row.{Context, Nothing, Block, BlockContext}
-use Rattle.vm_run.specs.declared.row.StepFault.{StepFault}
-use Rattle.vm_run.specs.declared.row.StepFault.TheVariants.{Failed}
+use Rattle.vm_num.specs.Item.{Item}
+use Rattle.vm_num.specs.declared.failure.Failure.{Failure}
+use Rattle.vm_run.specs.Effect.{Row, Faults, Rule, on_one, on_two, on_number, on_two_numbers, on_three_numbers}
+use Rattle.vm_run.specs.Effect.{on_size, on_part, by_count}
 
--- the block
-abbrev pub HasBlock : Context → Result (Bor BlockContext) StepFault → Type 0
-HasBlock context (Ok b) = context ≡ Block b.now
-HasBlock context (Err e) = (context ≡ Nothing) × (e ≡ Failed failures.Context)
+-- at these items every line of a kind is a failure
+abbrev pub Fails : {Operands : Type 0} → (Operands → Rule) → List Item → Failure → Type 0
+Fails {Operands} rule items kind = (line : Operands) (alt : List Item) → rule line items alt ≡ Faults kind
 
--- the top item
-abbrev pub HasOne : List Item → Result (Bor (List ℕ)) StepFault → Type 0
-HasOne items (Ok a) = items ≡ a.now ∷ drop 1 items
-HasOne items (Err e) = (items ≡ []) × (e ≡ Failed Underflow)
+-- one item, and two, the deeper first
+abbrev pub IsOne : List Item → Result (Bor (List ℕ)) Failure → Type 0
+IsOne items (Ok a) = items ≡ a.now ∷ drop 1 items
+IsOne items (Err kind) = Fails on_one items kind
 
--- the two top items, the deeper one first
-abbrev pub HasTwo : List Item → Result (Bor (List ℕ) × Bor (List ℕ)) StepFault → Type 0
-HasTwo items (Ok p) = items ≡ p.1.now ∷ p.0.now ∷ drop 2 items
-HasTwo items (Err e) = (length items < 2) × (e ≡ Failed Underflow)
+abbrev pub AreTwo : List Item → Result (Bor (List ℕ) × Bor (List ℕ)) Failure → Type 0
+AreTwo items (Ok p) = items ≡ p.1.now ∷ p.0.now ∷ drop 2 items
+AreTwo items (Err kind) = Fails on_two items kind
 
--- two items as numbers
-abbrev pub AreNumbers : Item → Item → Result (ℤ × ℤ) StepFault → Type 0
-AreNumbers a b (Ok p) = (num a ≡ Some p.0) × (num b ≡ Some p.1)
-AreNumbers a b (Err e) = ((num a ≡ None) ⊎ (num b ≡ None)) × (e ≡ Failed BadNumber)
+-- one number, two and three, the deepest first
+abbrev pub IsNumber : List Item → Result ℤ Failure → Type 0
+IsNumber items (Ok x) =
+    (1 ≤ length items) × ((line : ℤ → Row) (alt : List Item) → on_number line items alt ≡ line x)
+IsNumber items (Err kind) = Fails on_number items kind
+
+abbrev pub AreTwoNumbers : List Item → Result (ℤ × ℤ) Failure → Type 0
+AreTwoNumbers items (Ok p) =
+    (2 ≤ length items) × ((line : ℤ → ℤ → Row) (alt : List Item) → on_two_numbers line items alt ≡ line p.0 p.1)
+AreTwoNumbers items (Err kind) = Fails on_two_numbers items kind
+
+abbrev pub AreThreeNumbers : List Item → Result (ℤ × ℤ × ℤ) Failure → Type 0
+AreThreeNumbers items (Ok p) =
+    (3 ≤ length items)
+    × ((line : ℤ → ℤ → ℤ → Row) (alt : List Item) → on_three_numbers line items alt ≡ line p.0 p.1 p.2)
+AreThreeNumbers items (Err kind) = Fails on_three_numbers items kind
+
+-- a string and a number, and a string and two numbers, the deepest first
+abbrev pub IsSized : List Item → Result (Bor (List ℕ) × ℤ) Failure → Type 0
+IsSized items (Ok p) =
+    (2 ≤ length items) × ((line : Item → ℤ → Row) (alt : List Item) → on_size line items alt ≡ line p.0.now p.1)
+IsSized items (Err kind) = Fails on_size items kind
+
+abbrev pub IsPart : List Item → Result (Bor (List ℕ) × ℤ × ℤ) Failure → Type 0
+IsPart items (Ok p) =
+    (3 ≤ length items)
+    × ((line : Item → ℤ → ℤ → Row) (alt : List Item) → on_part line items alt ≡ line p.0.now p.1 p.2)
+IsPart items (Err kind) = Fails on_part items kind
+
+-- a count of items
+abbrev pub IsCount : List Item → Result ℕ Failure → Type 0
+IsCount items (Ok n) =
+    (1 ≤ length items)
+    × ((line : ℕ → List Item → Row) (alt : List Item) → by_count line items alt ≡ line n (drop 1 items))
+IsCount items (Err kind) = Fails by_count items kind

@@ -1,5 +1,6 @@
 -- Runs of a program.
-use Rattle.std.specs.Prelude.{◌≡◌, ℕ, ◌+◌, ◌-◌, ◌<◌, List, ◌++◌, length, drop, Result, Ok, Err, if◌then◌else◌, nat_lt}
+use Rattle.std.specs.Prelude.{◌≡◌, ℕ, ◌+◌, ◌-◌, ◌<◌, List, ◌++◌, length, take, drop, Option, Some, None, Result}
+use Rattle.std.specs.Prelude.{Ok, Err, if◌then◌else◌, nat_lt}
 use Rattle.vm_num.specs.Item.{Item, total_cost}
 use Rattle.vm_num.specs.declared.failure.Failure.{Failure}
 use Rattle.vm_num.specs.declared.failure.Failure.TheVariants as failures
@@ -27,17 +28,29 @@ pub data Move : Type 0 where
   Stops : Failure → Move
   Goes : (place : ℕ) (items alt : List Item) (left base : ℕ) → Move
 
+-- what the items that an effect pops and pushes cost
+abbrev pub popped_cost : Effect → List Item → List Item → ℕ
+popped_cost e items alt = total_cost (take e.pops items) + total_cost (take e.alt_pops alt)
+
+abbrev pub pushed_cost : Effect → ℕ
+pushed_cost e = total_cost e.pushed + total_cost e.alt_pushed
+
+-- behind the instruction, or at the place that is jumped to
+abbrev pub next_place : ℕ → Option ℕ → ℕ
+next_place behind None = behind
+next_place behind (Some place) = place
+
 -- The limit covers the base first; what is left of it and the popped items then pay for the pushed ones.
 abbrev pub paid : ℕ → List Item → List Item → ℕ → Effect → Move
-paid place items alt limit e =
+paid behind items alt limit e =
     if nat_lt limit e.base then Stops failures.RunLimit
-    else (if nat_lt (limit - e.base + total_cost e.popped) (total_cost e.pushed) then Stops failures.RunLimit
-    else Goes place (e.pushed ++ drop (length e.popped) items) alt
-    (limit - e.base + total_cost e.popped - total_cost e.pushed) e.base)
+    else (if nat_lt (limit - e.base + popped_cost e items alt) (pushed_cost e) then Stops failures.RunLimit
+    else Goes (next_place behind e.jump) (e.pushed ++ drop e.pops items) (e.alt_pushed ++ drop e.alt_pops alt)
+    (limit - e.base + popped_cost e items alt - pushed_cost e) e.base)
 
 abbrev pub row_move : ℕ → List Item → List Item → ℕ → Row → Move
-row_move place items alt limit (Faults kind) = Stops kind
-row_move place items alt limit (Does e) = paid place items alt limit e
+row_move behind items alt limit (Faults kind) = Stops kind
+row_move behind items alt limit (Does e) = paid behind items alt limit e
 
 abbrev pub failure_of : Misread → Failure
 failure_of misread.Short = failures.Short
@@ -66,7 +79,7 @@ pub data Run (context : Context) (check : Check) : List ℕ → ℕ → List Ite
       → place < length program
       → move context check program place items alt limit ≡ Stops kind
       → Run context check program place items alt limit (FailedAt kind place 0)
-  -- an instruction completes, and the run goes on behind it
+  -- an instruction completes, and the run goes on behind it, or at the place that it jumps to
   goes_on :
       {program : List ℕ} {place : ℕ} {items alt : List Item} {limit : ℕ} {next : ℕ} {items' alt' : List Item}
       {left base : ℕ} {outcome whole : Outcome}

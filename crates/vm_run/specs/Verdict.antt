@@ -18,11 +18,6 @@ verdict_of size (Ended left items alt count spent lost) =
     if top_is_true items then Succeeded left else Failed FalseResult size
 verdict_of size (FailedAt kind place count) = Failed kind place
 
--- what the run from a place on says
-abbrev pub VerdictFrom : Context → Check → List ℕ → ℕ → List Item → ℕ → Verdict → Type 0
-VerdictFrom context check program place items left verdict =
-    (o : Outcome) × Run context check program place items [] left o × (verdict ≡ verdict_of (length program) o)
-
 -- the run on arguments that are paid for, the first of them deepest
 abbrev pub RunOn : Context → Check → List ℕ → List Item → ℕ → Outcome → Type 0
 RunOn context check program args limit outcome =

@@ -3,6 +3,7 @@ ghost use Rattle.std.specs.Prelude.{◌≡◌, ◌<◌, ◌≤◌, ◌^◌, ◌+
 ghost use Rattle.vm_num.specs.Item.{Item, num_bytes};
 ghost use Rattle.vm_num.specs.Push.{push_of, push_int_of};
 ghost use Rattle.vm_code.specs.Instruction.{instruction_at};
+ghost use Rattle.vm_run.specs.Laws.{StepLaws, StretchLaws};
 ghost use Rattle.vm_run.specs.Pushes.{ReadsData, ReadsPush};
 ghost use Rattle.vm_run.specs.Row.{Context, Check};
 ghost use Rattle.vm_run.specs.Run.{Outcome, Run};
@@ -16,6 +17,17 @@ pub fn one_outcome()
         → Run context check program place items alt limit a
         → Run context check program place items alt limit b
         → a ≡ b }
+{}
+
+/// Completed instructions cost something, join, and run on: the steps of a run compose.
+pub fn steps()
+    ensures { (context : Context) (check : Check) (program : List ℕ) → StepLaws context check program }
+{}
+
+/// Instructions that complete in a stretch of code complete in every program that holds the stretch at its place, jumps
+/// within it included. A stretch may be put together of parts, each of which is said of its own code alone.
+pub fn stretches()
+    ensures { (context : Context) (check : Check) → StretchLaws context check }
 {}
 
 /// What `push_bytes` and `push_int` write is one instruction wherever it stands, and pushes the item or the number that

@@ -2,13 +2,21 @@
 #![tactic(auto)]
 
 mod context;
+mod control;
+mod fault;
 pub mod laws;
 mod machine;
 mod memory;
-mod row;
-mod stack;
+mod moving;
+mod numbers;
+mod operands;
+mod other;
+mod run;
+mod step;
+mod strings;
 mod verdict;
 
 pub use context::{BlockContext, Context};
+use fault::StepFault;
 pub use memory::NoMemory;
 pub use verdict::{Verdict, verify};

@@ -1,105 +1,102 @@
-// The state of a run, and one step of it.
-ghost use Rattle.std.specs.Prelude.{◌≡◌, ◌<◌, ◌≤◌, ◌+◌, ◌^◌, ℕ, List, [], length, take, reverse, IfOk, OnOk};
-ghost use Rattle.vm_num.specs.Item.{Item, total_cost};
-ghost use Rattle.vm_run.specs.Row.{TimeFits, row};
-ghost use Rattle.vm_code.specs.Seen.{seen};
-ghost use Rattle.vm_run.specs.Run.{move, row_move, paid};
-ghost use Rattle.vm_run.specs.Gives.{Moves};
+// The state of a run, and how an effect on it is paid for.
+ghost use Rattle.std.specs.Prelude.{◌≡◌, ◌<◌, ◌≤◌, ◌+◌, ◌^◌, [], ◌∷◌, length};
+ghost use Rattle.vm_stack.specs.Stacks.{held_cost, item_at};
+ghost use Rattle.vm_run.specs.Effect.{does};
+ghost use Rattle.vm_run.specs.Follows.{Follows, Popped, Pushed};
 
-use crate::row::{Effect, StepFault, row};
-use crate::stack::{Stack, cost_of};
-use crate::{Context, NoMemory};
-use keyed::SigCheck;
-use std::alloc::Global;
-use vm_code::{CodeFault, Instruction, next};
+use crate::StepFault;
+use keyed::Pile;
 use vm_num::Failure;
+use vm_stack::Stack;
 
-/// The data stack, and what is left of the run limit.
+/// The stacks, what is left of the run limit, and the place of the next instruction. After a fault the stacks and the
+/// limit are those of no state of the run.
 #[derive(Drop)]
 pub struct Machine {
     pub stack: Stack,
     pub left: u64,
+    pub at: u64,
 }
 
 impl Machine {
-    /// Runs the instruction at a place, and says which place is next.
-    pub fn step<C: SigCheck>(
-        &mut self,
-        alloc: Global,
-        ctx: &Context,
-        sigs: &C,
-        program: &[u8],
-        at: u64,
-    ) -> Result<u64, StepFault>
-        requires place { at < length program.now }
-        requires small { self.old.left + total_cost self.old.stack < 2 ^ 63 }
-        requires time { TimeFits ctx.now }
-        ensures moves { Moves result (move ctx.now (C.good_of sigs.now) program.now at self.old.stack [] self.old.left)
-            self.new.stack self.new.left }
-        ensures small { OnOk result (self.new.left + total_cost self.new.stack < 2 ^ 63) }
-        ensures place { IfOk result (λ next. (at < next) × (next ≤ length program.now)) }
+    /// Pays a base cost and pops n items.
+    pub fn pop(&mut self, n: u64, base: u64) -> Result<(), StepFault>
+        requires there { n ≤ length self.old.stack.items }
+        requires small { self.old.left + held_cost self.old.stack < 2 ^ 63 }
+        ensures popped { Popped self.old n base result self.new }
+        ensures follows { Follows self.old (does n [] base) result self.new }
     {
-        match next(program, at) {
-            Ok(i) => self.complete(alloc, ctx, sigs, &i, at + i.len),
-            Err(CodeFault::Short) => Err(StepFault::Failed(Failure::Short)),
-            Err(CodeFault::BadOpcode) => Err(StepFault::Failed(Failure::BadOpcode)),
-            Err(CodeFault::NoMemory) => Err(StepFault::NoMemory),
+        if self.left < base {
+            return Err(StepFault::Failed(Failure::RunLimit));
+        }
+        let held = self.stack.held();
+        match self.stack.drop_top(n) {
+            Ok(()) => {
+                self.left = self.left - base + (held - self.stack.held());
+                Ok(())
+            }
+            Err(_) => Err(StepFault::Failed(Failure::Underflow)),
         }
     }
 
-    // Runs an instruction behind which this place is next.
-    fn complete<C: SigCheck>(
-        &mut self,
-        alloc: Global,
-        ctx: &Context,
-        sigs: &C,
-        i: &Instruction<'_>,
-        place: u64,
-    ) -> Result<u64, StepFault>
-        requires small { self.old.left + total_cost self.old.stack < 2 ^ 63 }
-        requires time { TimeFits ctx.now }
-        ensures moves { (size : ℕ)
-            → Moves result
-            (row_move place self.old.stack [] self.old.left
-            (row ctx.now (C.good_of sigs.now) (seen i.now) size self.old.stack []))
-            self.new.stack self.new.left }
-        ensures small { OnOk result (self.new.left + total_cost self.new.stack < 2 ^ 63) }
-        ensures place { IfOk result (λ next. next ≡ place) }
+    /// Pays for an item in the place of the top n, and puts it there.
+    pub fn put(&mut self, n: u64, item: &[u8], base: u64) -> Result<(), StepFault>
+        requires there { n ≤ length self.old.stack.items }
+        requires small { self.old.left + held_cost self.old.stack < 2 ^ 63 }
+        ensures { Follows self.old (does n (item.now ∷ []) base) result self.new }
     {
-        match row(alloc, ctx, sigs, i, &self.stack) {
-            Ok(effect) => self.pay(effect, place),
+        match self.pop(n, base) {
+            Ok(()) => self.push(item),
             Err(fault) => Err(fault),
         }
     }
 
-    // Pays for an effect and applies it: the base first, and then what is pushed out of what is left and popped.
-    fn pay(&mut self, effect: Effect, place: u64) -> Result<u64, StepFault>
-        requires { self.old.left + total_cost self.old.stack < 2 ^ 63 }
-        ensures moves { (popped : List Item)
-            → popped ≡ take effect.pops self.old.stack
-            → length popped ≡ effect.pops
-            → Moves result
-            (paid place self.old.stack [] self.old.left
-            (record { popped = popped; pushed = reverse effect.pushes; base = effect.base }))
-            self.new.stack self.new.left }
-        ensures small { OnOk result (self.new.left + total_cost self.new.stack < 2 ^ 63) }
-        ensures place { IfOk result (λ next. next ≡ place) }
+    /// Pays a base cost and for an item, and pushes it.
+    pub fn add(&mut self, item: &[u8], base: u64) -> Result<(), StepFault>
+        ensures { Follows self.old (does 0 (item.now ∷ []) base) result self.new }
     {
-        if self.left < effect.base {
+        if self.left < base {
             return Err(StepFault::Failed(Failure::RunLimit));
         }
-        let budget = self.left - effect.base + self.stack.top_cost(effect.pops);
-        let price = cost_of(effect.pushes.as_slice());
-        if budget < price {
+        self.left -= base;
+        self.push(item)
+    }
+
+    // Pays for an item and pushes it.
+    fn push(&mut self, item: &[u8]) -> Result<(), StepFault>
+        ensures { Pushed self.old item.now result self.new }
+    {
+        let price = 8 + item.len() as u64;
+        if self.left < price {
             return Err(StepFault::Failed(Failure::RunLimit));
         }
-        self.stack.drop_top(effect.pops);
-        match self.stack.push_all(effect.pushes) {
+        match self.stack.push(item) {
             Ok(()) => {
-                self.left = budget - price;
-                Ok(place)
+                self.left -= price;
+                Ok(())
             }
-            Err(NoMemory) => Err(StepFault::NoMemory),
+            Err(_) => Err(StepFault::NoMemory),
+        }
+    }
+
+    /// Pays for a copy of the item k below the top, and pushes it.
+    pub fn copy(&mut self, k: u64) -> Result<(), StepFault>
+        requires there { k < length self.old.stack.items }
+        ensures { Pushed self.old (item_at k self.old.stack.items) result self.new }
+    {
+        let Some(item) = self.stack.item(k) else {
+            return Err(StepFault::Failed(Failure::Underflow));
+        };
+        let price = 8 + item.len() as u64;
+        if self.left < price {
+            return Err(StepFault::Failed(Failure::RunLimit));
+        }
+        match self.stack.pick(k) {
+            Ok(()) => {
+                self.left -= price;
+                Ok(())
+            }
+            Err(_) => Err(StepFault::NoMemory),
         }
     }
 }

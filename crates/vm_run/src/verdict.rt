@@ -1,17 +1,18 @@
-ghost use Rattle.std.specs.Prelude.{◌≡◌, ◌+◌, ◌<◌, ◌≤◌, ◌^◌, [], IfOk};
+ghost use Rattle.std.specs.Prelude.{◌≡◌, ◌+◌, ◌-◌, ◌<◌, ◌≤◌, ◌^◌, [], min, reverse, IfOk};
 ghost use Rattle.vm_num.specs.Item.{total_cost};
+ghost use Rattle.vm_run.specs.Ends.{VerdictFrom, VerdictOf};
 ghost use Rattle.vm_run.specs.Row.{TimeFits};
-ghost use Rattle.vm_run.specs.Run.{Outcome, Ended, count_of};
-ghost use Rattle.vm_run.specs.Verdict.{RunOn, HasVerdict, VerdictFrom, verdict_of};
+ghost use Rattle.vm_run.specs.Run.{Outcome, count_of};
+ghost use Rattle.vm_run.specs.Verdict.{RunOn, HasVerdict};
 
 use crate::machine::Machine;
-use crate::row::StepFault;
-use crate::stack::{Stack, cost_of};
+use crate::run::{End, run};
 use crate::{Context, NoMemory};
-use keyed::SigCheck;
+use keyed::{Pile, SigCheck};
 use std::alloc::Global;
 use vm_num::{Failure, truth};
-use wire::Args;
+use vm_stack::Stack;
+use wire::{Args, Bytes};
 
 /// How a program ends on its arguments.
 #[derive(Clone, Copy, Debug, PartialEq, Eq)]
@@ -22,9 +23,9 @@ pub enum Verdict {
     Failed { kind: Failure, at: u64 },
 }
 
-/// Runs a program on its arguments, the first of them deepest, in a context and under a run limit. The arguments are
-/// paid for first; where the limit does not cover them, the program fails with `RunLimit` at 0. `sigs` says which
-/// signatures are good; no instruction asks for one yet.
+/// Runs a program on its arguments, the first of them deepest, in a context and under a run limit below 2^63. The
+/// arguments are paid for first; where the limit does not cover them, the program fails with `RunLimit` at 0. `sigs`
+/// says which signatures are good; no instruction asks for one yet.
 pub fn verify<C: SigCheck>(
     alloc: Global,
     ctx: &Context,
@@ -33,7 +34,7 @@ pub fn verify<C: SigCheck>(
     args: &Args,
     limit: u64,
 ) -> Result<Verdict, NoMemory>
-    requires limit { limit ≤ 100000 }
+    requires limit { limit < 2 ^ 63 }
     requires time { TimeFits ctx.now }
     ensures verdict { IfOk result (HasVerdict ctx.now (C.good_of sigs.now) program.now args.now limit) }
 
@@ -50,45 +51,72 @@ pub fn verify<C: SigCheck>(
             at: 0,
         });
     }
-    let machine = Machine {
-        stack: Stack::of(alloc, args.as_slice())?,
-        left: limit - cost,
-    };
-    run(alloc, ctx, sigs, program, machine)
+    start(alloc, ctx, sigs, program, args, limit - cost)
 }
 
-// Runs a program from its start.
-fn run<C: SigCheck>(
+// Runs a program from its start on arguments that are paid for, with this much of the limit left.
+fn start<C: SigCheck>(
     alloc: Global,
     ctx: &Context,
     sigs: &C,
     program: &[u8],
-    mut machine: Machine,
+    args: &Args,
+    left: u64,
 ) -> Result<Verdict, NoMemory>
-    requires small { machine.left + total_cost machine.stack < 2 ^ 63 }
+    requires small { left + total_cost args.now < 2 ^ 63 }
     requires time { TimeFits ctx.now }
-    ensures { IfOk result (VerdictFrom ctx.now (C.good_of sigs.now) program.now 0 machine.stack machine.left) }
+    ensures { IfOk result (VerdictFrom ctx.now (C.good_of sigs.now) program.now (reverse args.now) left) }
 {
-    let mut at = 0;
-    while at < program.len() as u64 {
-        match machine.step(alloc, ctx, sigs, program, at) {
-            Ok(next) => at = next,
-            Err(StepFault::Failed(kind)) => return Ok(Verdict::Failed { kind, at }),
-            Err(StepFault::NoMemory) => return Err(NoMemory),
-        }
+    let mut machine = Machine {
+        stack: pile(alloc, args.as_slice())?,
+        left,
+        at: 0,
+    };
+    let mut scratch = Vec::new(alloc);
+    match run(&mut machine, ctx, sigs, program, &mut scratch) {
+        Ok(end) => Ok(verdict_on(end, &machine, program.len() as u64)),
+        Err(NoMemory) => Err(NoMemory),
     }
-    Ok(end(&machine, at))
 }
 
-// The verdict at the end of a program of this length.
-fn end(machine: &Machine, size: u64) -> Verdict
-    ensures { result ≡ verdict_of size (Ended machine.now.left machine.now.stack [] 0 0 0) }
+// A data stack of copies of these items, the first of them deepest.
+fn pile(alloc: Global, items: &[Bytes]) -> Result<Stack, NoMemory>
+    ensures { IfOk result (λ s. s ≡ record { items = reverse items.now; alt = [] }) }
 {
-    match machine.stack.top() {
-        Some(t) if truth(t) => Verdict::Succeeded { left: machine.left },
-        _ => Verdict::Failed {
-            kind: Failure::FalseResult,
-            at: size,
+    let mut stack = Stack::new(alloc);
+    for item in items {
+        if stack.push(item.as_slice()).is_err() {
+            return Err(NoMemory);
+        }
+    }
+    Ok(stack)
+}
+
+// What items cost; 2^64 - 1 where it is more.
+fn cost_of(items: &[Bytes]) -> u64
+    ensures { result ≡ min (total_cost items.now) (2 ^ 64 - 1) }
+{
+    let mut total = 0u64;
+    for item in items {
+        total = total
+            .saturating_add(item.as_slice().len() as u64)
+            .saturating_add(8);
+    }
+    total
+}
+
+// The verdict on a program of this length.
+fn verdict_on(end: End, machine: &Machine, size: u64) -> Verdict
+    ensures { VerdictOf size end machine.now result }
+{
+    match end {
+        End::Failed { kind, at } => Verdict::Failed { kind, at },
+        End::Ended => match machine.stack.item(0) {
+            Some(t) if truth(t) => Verdict::Succeeded { left: machine.left },
+            _ => Verdict::Failed {
+                kind: Failure::FalseResult,
+                at: size,
+            },
         },
     }
 }

@@ -1,0 +1,293 @@
+-- What every line of the table keeps: its base cost is at least 1, and it jumps at most to the program's end.
+use Rattle.std.proofs.Common.{◌≡◌, ℕ, ◌+◌, ◌≤◌, Bool, true, false, cond, List, [], ◌∷◌, length, min, max, leb, ltb, eqb, Option, Some, None, Ok, Err, ℤ, pos, negsuc, refl, sym, ◌∙◌, ap, arith}
+use Rattle.std.specs.Prelude.{bytes_eq, ◌&&◌}
+use Rattle.std.specs.Ordering.{int_eq}
+use Rattle.std.proofs.lemmas.Bool.{cond_both, ltb-false, eqb-true, true≢false}
+use Rattle.std.proofs.lemmas.Bool.Decides.{nat_tests}
+use Rattle.vm_num.specs.Item.{Item, num, num_bytes, is_true}
+use Rattle.vm_num.specs.declared.failure.Failure.TheVariants.{Underflow, BadOpcode, BadJump}
+use Rattle.vm_code.specs.Instruction.{Decoded, is_jump}
+use Rattle.vm_ops.specs.Line.{Line, line_at-all}
+use Rattle.vm_ops.specs.Bytes.{bytes_line, bytes_base}
+use Rattle.vm_ops.specs.Numbers.{number_line, number_base, number_count}
+use Rattle.vm_run.specs.Effect.{Context, Nothing, Block, BlockContext, Check, Row, Faults, Does, Rule, does, always, needs, on_one, on_two, on_three, on_alt, with_number, on_number, on_two_numbers, on_three_numbers, on_size, on_part, counted, by_count, in_block, push_row}
+use Rattle.vm_run.specs.Moving.{push_rule, jump_row, jump_if_row, verify_row, to_alt_row, from_alt_row, control_table, control_rule, drops, copies, moves, ifdup_row, nip_row, tuck_row, pick_row, roll_row, stack_table, stack_rule}
+use Rattle.vm_run.specs.Making.{string_row, of_string, of_two_strings, of_size, of_part, size_row, equalverify_row, string_table, string_rule, number_row, of_number, of_two_numbers, of_three_numbers, of_numbers, numequalverify_row, number_table, number_rule, other_table, other_rule}
+use Rattle.vm_run.specs.Row.{row}
+
+-- ---- base costs
+
+one : 1 ≤ 1
+one = omega arith
+
+number_base-fair : (code : ℕ) → 1 ≤ number_base code
+number_base-fair code = grind (arith, nat_tests)
+
+bytes_base-fair : (code : ℕ) (a b item : Item) → 1 ≤ bytes_base code a b item
+bytes_base-fair code a b item =
+    line_at-all (λ (base : ℕ). 1 ≤ base) (4 + length item) (
+    (0x83, 1 + length a)
+    ∷ (0x84, 1 + min (length a) (length b))
+    ∷ (0x85, 1 + max (length a) (length b))
+    ∷ (0x86, 1 + max (length a) (length b))
+    ∷ (0x87, 1 + min (length a) (length b))
+    ∷ (0xa8, max 64 (length a))
+    ∷ []) code (omega arith) (omega arith, (omega arith, (omega arith, (omega arith, (omega arith, (omega arith, tt))))))
+
+-- a fact in front of others
+infixr 40 ◌&◌
+◌&◌ : {A B : Type 0} → A → B → A × B
+first & rest = (first, rest)
+
+abbrev pub Within : ℕ → Option ℕ → Type 0
+Within size None = Unit {0}
+Within size (Some place) = place ≤ size
+
+-- the same of what is asked of the jump
+abbrev pub Fair : (Option ℕ → Type 0) → Row → Type 0
+Fair P (Faults kind) = Unit {0}
+Fair P (Does e) = (1 ≤ e.base) × P e.jump
+
+module _ (P : Option ℕ → Type 0) (none : P None) where
+  abbrev FairRule : Rule → Type 0
+  FairRule line = (items alt : List Item) → Fair P (line items alt)
+
+  either : (b : Bool) (x y : Row) → Fair P x → Fair P y → Fair P (cond b x y)
+  either true x y p q = p
+  either false x y p q = q
+
+  either_rule : (b : Bool) (x y : Rule) → FairRule x → FairRule y → FairRule (cond b x y)
+  either_rule true x y p q = p
+  either_rule false x y p q = q
+
+  -- ---- by what a line needs
+
+  fixed : (line : Row) → Fair P line → FairRule (always line)
+  fixed line fair items alt = fair
+
+  needing : (n : ℕ) (line : List Item → Row) → ((items : List Item) → Fair P (line items)) → FairRule (needs n line)
+  needing n line fair items alt = either (leb n (length items)) (line items) (Faults Underflow) (fair items) tt
+
+  single : (line : Item → Row) → ((a : Item) → Fair P (line a)) → FairRule (on_one line)
+  single line fair [] alt = tt
+  single line fair (a ∷ items) alt = fair a
+
+  double : (line : Item → Item → Row) → ((a b : Item) → Fair P (line a b)) → FairRule (on_two line)
+  double line fair [] alt = tt
+  double line fair (b ∷ []) alt = tt
+  double line fair (b ∷ a ∷ items) alt = fair a b
+
+  triple : (line : Item → Item → Item → Row) → ((a b c : Item) → Fair P (line a b c)) → FairRule (on_three line)
+  triple line fair [] alt = tt
+  triple line fair (c ∷ []) alt = tt
+  triple line fair (c ∷ b ∷ []) alt = tt
+  triple line fair (c ∷ b ∷ a ∷ items) alt = fair a b c
+
+  of_alt : (line : Item → Row) → ((a : Item) → Fair P (line a)) → FairRule (on_alt line)
+  of_alt line fair items [] = tt
+  of_alt line fair items (a ∷ alt) = fair a
+
+  numbered : (line : ℤ → Row) → ((x : ℤ) → Fair P (line x)) → (x : Option ℤ) → Fair P (with_number line x)
+  numbered line fair None = tt
+  numbered line fair (Some x) = fair x
+
+  number : (line : ℤ → Row) → ((x : ℤ) → Fair P (line x)) → FairRule (on_number line)
+  number line fair = single (λ a. with_number line (num a)) (λ a. numbered line fair (num a))
+
+  two_numbers : (line : ℤ → ℤ → Row) → ((x y : ℤ) → Fair P (line x y)) → FairRule (on_two_numbers line)
+  two_numbers line fair =
+      double (λ a b. with_number (λ x. with_number (line x) (num b)) (num a)) (λ a b.
+      numbered (λ x. with_number (line x) (num b)) (λ x. numbered (line x) (fair x) (num b)) (num a))
+
+  three_numbers : (line : ℤ → ℤ → ℤ → Row) → ((x y z : ℤ) → Fair P (line x y z)) → FairRule (on_three_numbers line)
+  three_numbers line fair =
+      triple (λ a b c. with_number (λ x. with_number (λ y. with_number (line x y) (num c)) (num b)) (num a)) (λ a b c.
+      numbered (λ x. with_number (λ y. with_number (line x y) (num c)) (num b)) (λ x.
+      numbered (λ y. with_number (line x y) (num c)) (λ y. numbered (line x y) (fair x y) (num c)) (num b)) (num a))
+
+  sized : (line : Item → ℤ → Row) → ((a : Item) (n : ℤ) → Fair P (line a n)) → FairRule (on_size line)
+  sized line fair = double (λ a n. with_number (line a) (num n)) (λ a n. numbered (line a) (fair a) (num n))
+
+  parted : (line : Item → ℤ → ℤ → Row) → ((a : Item) (m n : ℤ) → Fair P (line a m n)) → FairRule (on_part line)
+  parted line fair =
+      triple (λ a m n. with_number (λ x. with_number (line a x) (num n)) (num m)) (λ a m n.
+      numbered (λ x. with_number (line a x) (num n)) (λ x. numbered (line a x) (fair a x) (num n)) (num m))
+
+  counting : (line : ℕ → List Item → Row) → ((n : ℕ) (below : List Item) → Fair P (line n below)) → FairRule (by_count line)
+  counting line fair [] alt = tt
+  counting line fair (a ∷ below) alt = numbered (counted (λ n. line n below)) by_sign (num a)
+    where
+      by_sign : (x : ℤ) → Fair P (counted (λ n. line n below) x)
+      by_sign (pos n) = fair n below
+      by_sign (negsuc n) = tt
+
+  of_block : (f : BlockContext → Item) (context : Context) → FairRule (in_block context (λ b. push_row (f b)))
+  of_block f Nothing items alt = tt
+  of_block f (Block b) items alt = (one, none)
+
+  -- ---- lines
+
+  done : (pops : ℕ) (pushed : List Item) (base : ℕ) → 1 ≤ base → Fair P (does pops pushed base)
+  done pops pushed base least = (least, none)
+
+  bad : FairRule (always (Faults BadOpcode))
+  bad items alt = tt
+
+  dropping : (n base : ℕ) → 1 ≤ base → FairRule (drops n base)
+  dropping n base least = needing n _ (λ items. (least, none))
+
+  copying : (under n base : ℕ) → 1 ≤ base → FairRule (copies under n base)
+  copying under n base least = needing (under + n) _ (λ items. (least, none))
+
+  moving : (under n base : ℕ) → 1 ≤ base → FairRule (moves under n base)
+  moving under n base least = needing (under + n) _ (λ items. (least, none))
+
+  stringy : (code pops : ℕ) (a b : Item) (line : Line) → Fair P (string_row code pops a b line)
+  stringy code pops a b (Ok item) = (bytes_base-fair code a b item, none)
+  stringy code pops a b (Err kind) = tt
+
+  string : (code : ℕ) → FairRule (of_string code)
+  string code = single _ (λ a. stringy code 1 a [] (bytes_line code a [] (pos 0) (pos 0)))
+
+  two_strings : (code : ℕ) → FairRule (of_two_strings code)
+  two_strings code = double _ (λ a b. stringy code 2 a b (bytes_line code a b (pos 0) (pos 0)))
+
+  size_of : (code : ℕ) → FairRule (of_size code)
+  size_of code = sized _ (λ a n. stringy code 2 a [] (bytes_line code a [] (pos 0) n))
+
+  part_of : (code : ℕ) → FairRule (of_part code)
+  part_of code = parted _ (λ a m n. stringy code 3 a [] (bytes_line code a [] m n))
+
+  numeric : (code pops : ℕ) (line : Line) → Fair P (number_row code pops line)
+  numeric code pops (Ok item) = (number_base-fair code, none)
+  numeric code pops (Err kind) = tt
+
+  -- ---- tables
+
+  pushing : (i : Decoded) → FairRule (push_rule i)
+  pushing i =
+      either_rule (leb i.code 0x4e) _ _ (λ items alt. (one, none))
+      (either_rule (eqb i.code 0x4f) _ _ (λ items alt. (one, none))
+      (either_rule (eqb i.code 0x50) _ _ bad (λ items alt. (one, none))))
+
+  -- where its jumps are fair
+  control : (i : Decoded) (size : ℕ) → ((pops : ℕ) → Fair P (jump_row pops i.target size)) → FairRule (control_rule i size)
+  unfolding control_rule
+  control i size jumps =
+      line_at-all FairRule (always (Faults BadOpcode)) (control_table i size) i.code bad
+      (fixed (does 0 [] 1) (one, none)
+      & fixed (jump_row 0 i.target size) (jumps 0)
+      & single (jump_if_row i.target size) (λ t. either (is_true t) _ _ (jumps 1) (one, none))
+      & single verify_row (λ t. either (is_true t) _ _ (one, none) tt)
+      & bad
+      & single to_alt_row (λ a. (omega arith, none))
+      & of_alt from_alt_row (λ a. (omega arith, none))
+      & tt)
+
+  -- and where it is none
+  unless : (b : Bool) (x y : Rule) → (b ≡ true → ⊥) → FairRule y → FairRule (cond b x y)
+  unless true x y not fair = absurd (not refl)
+  unless false x y not fair = fair
+
+  no_jump : (code : ℕ) → is_jump code ≡ false → (jump : ℕ) → is_jump jump ≡ true → eqb jump code ≡ true → ⊥
+  no_jump code straight jump jumps is = true≢false (sym jumps ∙ ap is_jump (eqb-true jump code is) ∙ straight)
+
+  straight_control : (i : Decoded) (size : ℕ) → is_jump i.code ≡ false → FairRule (control_rule i size)
+  unfolding control_rule
+  straight_control i size straight =
+      either_rule (eqb 0x61 i.code) _ _ (fixed (does 0 [] 1) (one, none))
+      (unless (eqb 0x63 i.code) _ _ (no_jump i.code straight 0x63 refl)
+      (unless (eqb 0x64 i.code) _ _ (no_jump i.code straight 0x64 refl)
+      (either_rule (eqb 0x69 i.code) _ _ (single verify_row (λ t. either (is_true t) _ _ (one, none) tt))
+      (either_rule (eqb 0x6a i.code) _ _ bad
+      (either_rule (eqb 0x6b i.code) _ _ (single to_alt_row (λ a. (omega arith, none)))
+      (either_rule (eqb 0x6c i.code) _ _ (of_alt from_alt_row (λ a. (omega arith, none))) bad))))))
+
+  stack : (code : ℕ) → FairRule (stack_rule code)
+  unfolding stack_rule
+  stack code =
+      line_at-all FairRule (always (Faults BadOpcode)) stack_table code bad
+      (dropping 2 2 (omega arith)
+      & copying 0 2 2 (omega arith)
+      & copying 0 3 3 (omega arith)
+      & copying 2 2 2 (omega arith)
+      & moving 4 2 2 (omega arith)
+      & moving 2 2 2 (omega arith)
+      & single ifdup_row (λ t. either (is_true t) _ _ (one, none) (one, none))
+      & (λ items alt. (one, none))
+      & dropping 1 1 one
+      & copying 0 1 1 one
+      & double nip_row (λ a b. (one, none))
+      & copying 1 1 1 one
+      & counting pick_row (λ n below. either (ltb n (length below)) _ _ (omega arith, none) tt)
+      & counting roll_row (λ n below. either (ltb n (length below)) _ _ (omega arith, none) tt)
+      & moving 2 1 2 (omega arith)
+      & moving 1 1 1 one
+      & double tuck_row (λ a b. (one, none))
+      & tt)
+
+  strings : (code : ℕ) → FairRule (string_rule code)
+  unfolding string_rule
+  strings code =
+      line_at-all FairRule (always (Faults BadOpcode)) string_table code bad
+      (two_strings 0x7e
+      & part_of 0x7f
+      & size_of 0x80
+      & size_of 0x81
+      & single size_row (λ a. (one, none))
+      & string 0x83
+      & two_strings 0x84
+      & two_strings 0x85
+      & two_strings 0x86
+      & two_strings 0x87
+      & double equalverify_row (λ a b. either (bytes_eq a b) _ _ (omega arith, none) tt)
+      & two_strings 0x89
+      & tt)
+
+  of_count : (code : ℕ) → FairRule (of_numbers code)
+  of_count code =
+      line_at-all FairRule (always (Faults BadOpcode)) ((1, of_number code) ∷ (2, of_two_numbers code) ∷ (3, of_three_numbers code) ∷ []) (number_count code) bad
+      (number _ (λ x. numeric code 1 (number_line code x (pos 0) (pos 0)))
+      & two_numbers _ (λ x y. numeric code 2 (number_line code x y (pos 0)))
+      & three_numbers _ (λ x y z. numeric code 3 (number_line code x y z))
+      & tt)
+
+  numbers : (code : ℕ) → FairRule (number_rule code)
+  unfolding number_rule
+  numbers code =
+      line_at-all FairRule (of_numbers code) number_table code (of_count code)
+      (double _ (λ a b. (omega arith, none))
+      & double _ (λ a b. (omega arith, none))
+      & two_numbers numequalverify_row (λ x y. either (int_eq x y) _ _ (omega arith, none) tt)
+      & tt)
+
+  others : (context : Context) (code : ℕ) → FairRule (other_rule context code)
+  unfolding other_rule
+  others context code =
+      line_at-all FairRule (always (Faults BadOpcode)) (other_table context) code bad
+      (string 0xa8
+      & of_block (λ b. b.block_id) context
+      & of_block (λ b. b.program) context
+      & of_block (λ b. b.next_program) context
+      & of_block (λ b. num_bytes (pos b.time)) context
+      & tt)
+
+  lines : (context : Context) (check : Check) (i : Decoded) (size : ℕ) → FairRule (control_rule i size) → (items alt : List Item) → Fair P (row context check i size items alt)
+  unfolding row
+  lines context check i size controls =
+      either_rule (leb i.code 0x60) _ _ (pushing i)
+      (either_rule (leb i.code 0x6c) _ _ controls
+      (either_rule (leb i.code 0x7d) _ _ (stack i.code)
+      (either_rule (leb i.code 0x89) _ _ (strings i.code)
+      (either_rule (leb 0x8b i.code && leb i.code 0xa5) _ _ (numbers i.code) (others context i.code)))))
+
+jumping : (size pops place : ℕ) → Fair (Within size) (jump_row pops place size)
+jumping size pops place =
+    cond_both (ltb size place) (Faults BadJump) _ (Fair (Within size)) (λ past. tt) (λ not_past. (one, ltb-false size place not_past))
+
+pub row-fair : (context : Context) (check : Check) (i : Decoded) (size : ℕ) (items alt : List Item) → Fair (Within size) (row context check i size items alt)
+row-fair context check i size = lines (Within size) tt context check i size (control (Within size) tt i size (λ pops. jumping size pops i.target))
+
+-- an instruction that is no jump goes on behind itself
+pub row-straight : (context : Context) (check : Check) (i : Decoded) (size : ℕ) → is_jump i.code ≡ false → (items alt : List Item) → Fair (λ jump. jump ≡ None) (row context check i size items alt)
+row-straight context check i size straight = lines (λ jump. jump ≡ None) refl context check i size (straight_control (λ jump. jump ≡ None) refl i size straight)

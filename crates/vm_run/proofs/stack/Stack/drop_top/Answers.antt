@@ -1,6 +1,0 @@
-use Rattle.std.proofs.Common.{arith}
-use Rattle.vm_run.proofs.Reversed.{drop-reverse}
-use Rattle.vm_run.proofs.stack.Stack.drop_top.Goals as goal
-
-pub returns : goal.returns
-returns c = grind (arith, drop-reverse)

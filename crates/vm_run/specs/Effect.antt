@@ -1,0 +1,119 @@
+-- What an instruction does to the stacks, and what it needs of them. What a program is run for, `Context`, is the type
+-- that the code has.
+use Rattle.std.specs.Prelude.{ℕ, ◌<◌, ◌^◌, Bool, List, [], ◌∷◌, length, Option, Some, None}
+use Rattle.std.specs.Prelude.{if◌then◌else◌, nat_le, ℤ, pos, negsuc}
+use Rattle.vm_num.specs.Item.{Item, num}
+use Rattle.vm_num.specs.declared.failure.Failure.{Failure}
+use Rattle.vm_num.specs.declared.failure.Failure.TheVariants.{Underflow, AltUnderflow, BadNumber, BadValue}
+use Rattle.vm_num.specs.declared.failure.Failure.TheVariants as failures
+pub use Rattle.vm_run.specs.declared.context.Context.{Context}
+pub use Rattle.vm_run.specs.declared.context.Context.TheVariants.{Nothing, Block}
+pub use Rattle.vm_run.specs.declared.context.BlockContext.{BlockContext}
+
+-- the time of a context's block is a 64-bit number
+abbrev pub TimeFits : Context → Type 0
+TimeFits Nothing = Unit {0}
+TimeFits (Block b) = b.time < 2 ^ 63
+
+-- whether a signature is good, by the key, the message and the signature
+abbrev pub Check : Type 0
+Check = List ℕ → List ℕ → List ℕ → Bool
+
+-- How many items are popped off the data stack and the items that are pushed in their place, the top first; the same of
+-- the alt stack; the base cost; and the place that is jumped to, if any. An item that is moved is popped and pushed.
+pub record Effect : Type 0 where
+  pub pops : ℕ
+  pub pushed : List Item
+  pub alt_pops : ℕ
+  pub alt_pushed : List Item
+  pub base : ℕ
+  pub jump : Option ℕ
+
+-- an instruction fails, or has an effect where the limit allows it
+pub data Row : Type 0 where
+  Faults : Failure → Row
+  Does : Effect → Row
+
+-- an effect on the data stack alone
+abbrev pub effect : ℕ → List Item → ℕ → Effect
+effect pops pushed base =
+    record { pops = pops; pushed = pushed; alt_pops = 0; alt_pushed = []; base = base; jump = None }
+
+abbrev pub does : ℕ → List Item → ℕ → Row
+does pops pushed base = Does (effect pops pushed base)
+
+-- pushes an item
+abbrev pub push_row : Item → Row
+push_row item = does 0 (item ∷ []) 1
+
+-- a line of the table: the row on the items of the data stack and of the alt stack, the top first in each
+abbrev pub Rule : Type 0
+Rule = List Item → List Item → Row
+
+-- ---- what a line needs
+
+-- nothing
+abbrev pub always : Row → Rule
+always row items alt = row
+
+-- so many items
+abbrev pub needs : ℕ → (List Item → Row) → Rule
+needs n line items alt = if nat_le n (length items) then line items else Faults Underflow
+
+-- one item, two and three, the deepest first
+abbrev pub on_one : (Item → Row) → Rule
+on_one line [] alt = Faults Underflow
+on_one line (a ∷ items) alt = line a
+
+abbrev pub on_two : (Item → Item → Row) → Rule
+on_two line [] alt = Faults Underflow
+on_two line (b ∷ []) alt = Faults Underflow
+on_two line (b ∷ a ∷ items) alt = line a b
+
+abbrev pub on_three : (Item → Item → Item → Row) → Rule
+on_three line [] alt = Faults Underflow
+on_three line (c ∷ []) alt = Faults Underflow
+on_three line (c ∷ b ∷ []) alt = Faults Underflow
+on_three line (c ∷ b ∷ a ∷ items) alt = line a b c
+
+-- an item of the alt stack
+abbrev pub on_alt : (Item → Row) → Rule
+on_alt line items [] = Faults AltUnderflow
+on_alt line items (a ∷ alt) = line a
+
+-- that an item is a number
+abbrev pub with_number : (ℤ → Row) → Option ℤ → Row
+with_number line None = Faults BadNumber
+with_number line (Some n) = line n
+
+-- one, two and three numbers, the deepest first
+abbrev pub on_number : (ℤ → Row) → Rule
+on_number line = on_one (λ a. with_number line (num a))
+
+abbrev pub on_two_numbers : (ℤ → ℤ → Row) → Rule
+on_two_numbers line = on_two (λ a b. with_number (λ x. with_number (line x) (num b)) (num a))
+
+abbrev pub on_three_numbers : (ℤ → ℤ → ℤ → Row) → Rule
+on_three_numbers line =
+    on_three (λ a b c. with_number (λ x. with_number (λ y. with_number (line x y) (num c)) (num b)) (num a))
+
+-- a string and a number, and a string and two numbers, the deepest first
+abbrev pub on_size : (Item → ℤ → Row) → Rule
+on_size line = on_two (λ a n. with_number (line a) (num n))
+
+abbrev pub on_part : (Item → ℤ → ℤ → Row) → Rule
+on_part line = on_three (λ a m n. with_number (λ x. with_number (line a x) (num n)) (num m))
+
+-- a number on top that counts items, and is not negative; the line takes it and the items below it
+abbrev pub counted : (ℕ → Row) → ℤ → Row
+counted line (pos n) = line n
+counted line (negsuc n) = Faults BadValue
+
+abbrev pub by_count : (ℕ → List Item → Row) → Rule
+by_count line [] alt = Faults Underflow
+by_count line (a ∷ below) alt = with_number (counted (λ n. line n below)) (num a)
+
+-- a block
+abbrev pub in_block : Context → (BlockContext → Row) → Rule
+in_block Nothing line = always (Faults failures.Context)
+in_block (Block b) line = always (line b)

@@ -1,0 +1,34 @@
+-- How the code's run ends, against the definitions.
+use Rattle.std.specs.Prelude.{◌≡◌, ℕ, List, [], length, Result, Ok, Err}
+use Rattle.vm_run.specs.declared.machine.Machine.{Machine}
+use Rattle.vm_run.specs.declared.memory.NoMemory.{NoMemory}
+use Rattle.vm_run.specs.declared.run.End.{End}
+use Rattle.vm_run.specs.declared.run.End.TheVariants.{Failed}
+use Rattle.vm_run.specs.declared.run.End.TheVariants as ends
+use Rattle.vm_run.specs.Row.{Context, Check}
+use Rattle.vm_num.specs.Item.{Item}
+use Rattle.vm_run.specs.Run.{Outcome, Ended, FailedAt, Run}
+use Rattle.vm_run.specs.Stretch.{RunFrom}
+use Rattle.vm_run.specs.Follows.{state_of}
+use Rattle.vm_run.specs.Verdict.{verdict_of}
+use Rattle.vm_run.specs.declared.verdict.Verdict.{Verdict}
+
+-- the run from where a machine stood has an outcome that was answered, with the machine as it was left
+abbrev pub Ends : Context → Check → List ℕ → Machine → Result End NoMemory → Machine → Type 0
+Ends context check program before (Ok ends.Ended) after =
+    (count spent : ℕ)
+    × RunFrom context check program (state_of before) (Ended after.left after.stack.items after.stack.alt count spent 0)
+Ends context check program before (Ok (Failed kind at)) after =
+    (count : ℕ) × RunFrom context check program (state_of before) (FailedAt kind at count)
+Ends context check program before (Err e) after = Unit {0}
+
+-- the verdict is that of every outcome which ends so
+abbrev pub VerdictOf : ℕ → End → Machine → Verdict → Type 0
+VerdictOf size ends.Ended m verdict =
+    (count spent : ℕ) → verdict ≡ verdict_of size (Ended m.left m.stack.items m.stack.alt count spent 0)
+VerdictOf size (Failed kind at) m verdict = (count : ℕ) → verdict ≡ verdict_of size (FailedAt kind at count)
+
+-- the verdict is that of the run from a program's start on these items, with this much of the limit left
+abbrev pub VerdictFrom : Context → Check → List ℕ → List Item → ℕ → Verdict → Type 0
+VerdictFrom context check program items left verdict =
+    (o : Outcome) × Run context check program 0 items [] left o × (verdict ≡ verdict_of (length program) o)

@@ -1,0 +1,64 @@
+-- What the code did to its machine, against the definitions.
+use Rattle.std.specs.Prelude.{◌≡◌, ◌<◌, ◌≤◌, ℕ, ◌+◌, List, ◌∷◌, ◌++◌, take, drop, Result, Ok, Err}
+use Rattle.vm_num.specs.Item.{Item, cost, total_cost}
+use Rattle.vm_num.specs.declared.failure.Failure.TheVariants.{RunLimit}
+use Rattle.vm_ops.specs.Line.{Line}
+use Rattle.vm_ops.specs.Bytes.{bytes_base}
+use Rattle.vm_run.specs.declared.machine.Machine.{Machine}
+use Rattle.vm_run.specs.declared.fault.StepFault.{StepFault}
+use Rattle.vm_run.specs.declared.fault.StepFault.TheVariants.{Failed, NoMemory}
+use Rattle.vm_run.specs.Row.{Row}
+use Rattle.vm_run.specs.Run.{Move, Stops, Goes, row_move}
+use Rattle.vm_run.specs.Stretch.{State}
+
+-- a machine as a state of a run
+abbrev pub state_of : Machine → State
+state_of m = record { place = m.at; items = m.stack.items; alt = m.stack.alt; left = m.left }
+
+abbrev pub base_of : Move → ℕ
+base_of (Stops kind) = 0
+base_of (Goes place items alt left base) = base
+
+-- what an instruction comes to is what was answered, with the machine as it was left; want of memory is free
+abbrev pub Shows : Move → Result (Unit {0}) StepFault → Machine → Type 0
+Shows move (Ok done) m = move ≡ Goes m.at m.stack.items m.stack.alt m.left (base_of move)
+Shows move (Err (Failed kind)) m = move ≡ Stops kind
+Shows move (Err NoMemory) m = Unit {0}
+
+-- so is a row, on the stacks and the limit of a machine that stands behind its instruction
+abbrev pub Follows : Machine → Row → Result (Unit {0}) StepFault → Machine → Type 0
+Follows before row result after =
+    Shows (row_move before.at before.stack.items before.stack.alt before.left row) result after
+
+-- so many items were popped and a base cost was paid, or the limit does not cover the base
+abbrev pub Popped : Machine → ℕ → ℕ → Result (Unit {0}) StepFault → Machine → Type 0
+Popped before n base (Ok done) after =
+    (base ≤ before.left)
+    × (after.stack ≡ record before.stack { items = drop n before.stack.items })
+    × (after.at ≡ before.at)
+    × (after.left + base ≡ before.left + total_cost (take n before.stack.items))
+Popped before n base (Err fault) after = (before.left < base) × (fault ≡ Failed RunLimit)
+
+-- an item was paid for and pushed, or the limit does not cover it
+abbrev pub Pushed : Machine → Item → Result (Unit {0}) StepFault → Machine → Type 0
+Pushed before item (Ok done) after =
+    (after.stack ≡ record before.stack { items = item ∷ before.stack.items })
+    × (after.at ≡ before.at)
+    × (after.left + cost item ≡ before.left)
+Pushed before item (Err (Failed kind)) after = (before.left < cost item) × (kind ≡ RunLimit)
+Pushed before item (Err NoMemory) after = Unit {0}
+
+-- copies were paid for and pushed, or the limit does not cover them
+abbrev pub Copies : Machine → List Item → Result (Unit {0}) StepFault → Machine → Type 0
+Copies before copies (Ok done) after =
+    (after.stack ≡ record before.stack { items = copies ++ before.stack.items })
+    × (after.at ≡ before.at)
+    × (after.left + total_cost copies ≡ before.left)
+Copies before copies (Err (Failed kind)) after = (before.left < total_cost copies) × (kind ≡ RunLimit)
+Copies before copies (Err NoMemory) after = Unit {0}
+
+-- a line of strings gave this item, which costs this to make
+abbrev pub Makes : ℕ → Item → Item → Line → Result ℕ StepFault → Item → Type 0
+Makes code a b line (Ok base) item = (line ≡ Ok item) × (base ≡ bytes_base code a b item)
+Makes code a b line (Err (Failed kind)) item = line ≡ Err kind
+Makes code a b line (Err NoMemory) item = Unit {0}

@@ -1,0 +1,105 @@
+// The operands of a line, read off a data stack.
+ghost use Rattle.std.specs.Prelude.{◌≡◌, Some, None};
+ghost use Rattle.vm_num.specs.Item.{num};
+ghost use Rattle.vm_run.specs.Operands.{IsOne, AreTwo, IsNumber, AreTwoNumbers, AreThreeNumbers, IsSized, IsPart};
+ghost use Rattle.vm_run.specs.Operands.{IsCount};
+
+use keyed::Pile;
+use vm_num::{Failure, read_num};
+use vm_stack::Stack;
+
+/// The top item.
+pub fn one(stack: &Stack) -> Result<&[u8], Failure>
+    ensures { IsOne stack.now.items result }
+{
+    match stack.item(0) {
+        Some(a) => Ok(a),
+        None => Err(Failure::Underflow),
+    }
+}
+
+/// The two top items, the deeper first.
+pub fn two(stack: &Stack) -> Result<(&[u8], &[u8]), Failure>
+    ensures { AreTwo stack.now.items result }
+{
+    match (stack.item(1), stack.item(0)) {
+        (Some(a), Some(b)) => Ok((a, b)),
+        _ => Err(Failure::Underflow),
+    }
+}
+
+/// The top item as a number.
+pub fn number(stack: &Stack) -> Result<i64, Failure>
+    ensures { IsNumber stack.now.items result }
+{
+    match stack.item(0) {
+        Some(a) => read_num(a).ok_or(Failure::BadNumber),
+        None => Err(Failure::Underflow),
+    }
+}
+
+/// The two top items as numbers, the deeper first.
+pub fn two_numbers(stack: &Stack) -> Result<(i64, i64), Failure>
+    ensures { AreTwoNumbers stack.now.items result }
+{
+    match (stack.item(1), stack.item(0)) {
+        (Some(a), Some(b)) => match (read_num(a), read_num(b)) {
+            (Some(x), Some(y)) => Ok((x, y)),
+            _ => Err(Failure::BadNumber),
+        },
+        _ => Err(Failure::Underflow),
+    }
+}
+
+/// The three top items as numbers, the deepest first.
+pub fn three_numbers(stack: &Stack) -> Result<(i64, i64, i64), Failure>
+    ensures { AreThreeNumbers stack.now.items result }
+{
+    match (stack.item(2), stack.item(1), stack.item(0)) {
+        (Some(a), Some(b), Some(c)) => match (read_num(a), read_num(b), read_num(c)) {
+            (Some(x), Some(y), Some(z)) => Ok((x, y, z)),
+            _ => Err(Failure::BadNumber),
+        },
+        _ => Err(Failure::Underflow),
+    }
+}
+
+/// An item, and a number above it.
+pub fn sized(stack: &Stack) -> Result<(&[u8], i64), Failure>
+    ensures { IsSized stack.now.items result }
+{
+    match (stack.item(1), stack.item(0)) {
+        (Some(a), Some(n)) => match read_num(n) {
+            Some(size) => Ok((a, size)),
+            None => Err(Failure::BadNumber),
+        },
+        _ => Err(Failure::Underflow),
+    }
+}
+
+/// An item, and two numbers above it, the deeper first.
+pub fn part(stack: &Stack) -> Result<(&[u8], i64, i64), Failure>
+    ensures { IsPart stack.now.items result }
+{
+    match (stack.item(2), stack.item(1), stack.item(0)) {
+        (Some(a), Some(m), Some(n)) => match (read_num(m), read_num(n)) {
+            (Some(from), Some(size)) => Ok((a, from, size)),
+            _ => Err(Failure::BadNumber),
+        },
+        _ => Err(Failure::Underflow),
+    }
+}
+
+/// The top item as a count.
+pub fn count(stack: &Stack) -> Result<u64, Failure>
+    ensures { IsCount stack.now.items result }
+{
+    match stack.item(0) {
+        Some(a) => match read_num(a) {
+            Some(n) if 0 <= n => Ok(n as u64),
+            Some(_) => Err(Failure::BadValue),
+            None => Err(Failure::BadNumber),
+        },
+        None => Err(Failure::Underflow),
+    }
+}

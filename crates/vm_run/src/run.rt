@@ -1,0 +1,43 @@
+// A run from a place of a program on.
+ghost use Rattle.std.specs.Prelude.{◌<◌, ◌≤◌, ◌+◌, ◌^◌, length};
+ghost use Rattle.vm_stack.specs.Stacks.{held_cost};
+ghost use Rattle.vm_run.specs.Ends.{Ends};
+ghost use Rattle.vm_run.specs.Row.{TimeFits};
+
+use crate::machine::Machine;
+use crate::{Context, NoMemory, StepFault};
+use keyed::SigCheck;
+use vm_num::Failure;
+
+/// How a run ends.
+#[derive(Clone, Copy)]
+pub enum End {
+    /// At the program's end.
+    Ended,
+    /// In a failure, at this place.
+    Failed { kind: Failure, at: u64 },
+}
+
+/// Runs a program from the machine's place on, and leaves the machine as it is at the end.
+pub fn run<C: SigCheck>(
+    machine: &mut Machine,
+    ctx: &Context,
+    sigs: &C,
+    program: &[u8],
+    scratch: &mut Vec<u8>,
+) -> Result<End, NoMemory>
+    requires place { machine.old.at ≤ length program.now }
+    requires small { machine.old.left + held_cost machine.old.stack < 2 ^ 63 }
+    requires time { TimeFits ctx.now }
+    ensures { Ends ctx.now (C.good_of sigs.now) program.now machine.old result machine.new }
+{
+    while machine.at < program.len() as u64 {
+        let at = machine.at;
+        match machine.step(ctx, sigs, program, scratch) {
+            Ok(()) => {}
+            Err(StepFault::Failed(kind)) => return Ok(End::Failed { kind, at }),
+            Err(StepFault::NoMemory) => return Err(NoMemory),
+        }
+    }
+    Ok(End::Ended)
+}
