@@ -10,4 +10,6 @@ pub mod MemFiles
 pub mod MemSink
 pub mod Sink
 pub mod StdFiles
+pub mod Steps
 pub mod Whole
+pub mod World

@@ -7,6 +7,7 @@
 #![tactic(auto)]
 
 mod begun;
+mod both;
 mod contents;
 mod fault;
 mod files;
@@ -14,6 +15,7 @@ mod laws;
 mod mem_files;
 mod mem_sink;
 mod memory;
+mod outside;
 mod plan;
 mod sink;
 mod std_files;
@@ -21,12 +23,14 @@ mod std_sink;
 mod tally;
 mod turns;
 
+pub use both::Both;
 pub use fault::FileFault;
 pub use files::Files;
 pub use laws::{done_is_kept, moments_join, others_stay, runs_join, starts_kept};
 pub use mem_files::MemFiles;
 pub use mem_sink::MemSink;
 pub use memory::NoMemory;
+pub use outside::Outside;
 pub use sink::Sink;
 pub use std_files::StdFiles;
 pub use std_sink::StdSink;

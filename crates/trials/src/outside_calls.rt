@@ -1,4 +1,5 @@
-use outside::{FileFault, Files, MemFiles, MemSink, Sink, StdFiles, StdSink};
+use outside::{Both, FileFault, Files, MemFiles, MemSink, Outside, Sink, StdFiles, StdSink};
+use std::alloc::Global;
 use std::cell::Cell;
 use std::fmt::Display;
 use std::test::Fail;
@@ -62,6 +63,75 @@ fn each_call_on_files_fails_in_turn(rt: HostRuntime) -> Result<(), Fail> {
         assert_eq!(rt; files.get("b"), b, "where call {call} fails");
         assert_eq!(rt; files.get("c").is_some(), call != 3);
         assert_eq!(rt; files.get("d"), None);
+    }
+    Ok(())
+}
+
+/// How a step was answered: done, failed, or not begun for want of memory.
+fn sign<T>(answer: &Result<T, FileFault>) -> u8 {
+    match answer {
+        Ok(_) => b'+',
+        Err(FileFault::Failed) => b'-',
+        Err(FileFault::NoMemory) => b'?',
+    }
+}
+
+/// Six steps, how each was answered, and what the read gave.
+fn six_steps<O: Outside>(alloc: Global, out: &mut O) -> ([u8; 6], Option<Vec<u8>>) {
+    let appended = out.append("a", b"23");
+    let read = out.read(alloc, "a", 1);
+    let replaced = out.replace("b", b"xy");
+    let printed = out.print(b"p");
+    let empty = out.print(b"");
+    let last = out.print(b"q");
+    let signs = [
+        sign(&appended),
+        sign(&read),
+        sign(&replaced),
+        sign(&printed),
+        sign(&empty),
+        sign(&last),
+    ];
+    (signs, read.ok())
+}
+
+/// The calls on the files and on the sink that fail, where 9 is none; the answers of the six steps, what the read
+/// gave, the files a and b, and what was printed.
+const STEP_ROWS: [(
+    u64,
+    u64,
+    &[u8; 6],
+    Option<&[u8]>,
+    &[u8],
+    Option<&[u8]>,
+    &[u8],
+); 6] = [
+    (0, 9, b"-+++++", Some(b"1"), b"1", Some(b"xy"), b"pq"),
+    (1, 9, b"+-++++", None, b"123", Some(b"xy"), b"pq"),
+    (2, 9, b"++-+++", Some(b"12"), b"123", None, b"pq"),
+    (9, 0, b"+++-++", Some(b"12"), b"123", Some(b"xy"), b"q"),
+    (9, 1, b"+++++-", Some(b"12"), b"123", Some(b"xy"), b"p"),
+    (9, 9, b"++++++", Some(b"12"), b"123", Some(b"xy"), b"pq"),
+];
+
+#[test]
+fn each_step_on_files_and_a_sink_fails_in_turn(rt: HostRuntime) -> Result<(), Fail> {
+    let alloc = rt.alloc();
+    for (of_files, of_sink, wanted, got, a, b, printed) in STEP_ROWS {
+        let mut files = MemFiles::new(alloc, vec![in alloc; of_files]?);
+        let mut sink = MemSink::new(alloc, vec![in alloc; of_sink]?);
+        files.put("a", b"1")?;
+        let (signs, read) = six_steps(
+            alloc,
+            &mut Both {
+                files: &mut files,
+                out: &mut sink,
+            },
+        );
+        let read = read.as_ref().map(|v| v.as_slice());
+        let left = (&signs, read, files.get("a"), files.get("b"), sink.bytes());
+        assert_eq!(rt; left, (wanted, got, Some(a), b, printed));
+        assert_eq!(rt; sink.calls(), 2, "an empty piece is no call");
     }
     Ok(())
 }
