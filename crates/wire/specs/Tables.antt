@@ -1,5 +1,5 @@
 -- A table of refusals: lines in order, of which the first that holds is told.
-use Rattle.std.specs.Prelude.{◌≡◌, ◌⊎◌, List, [], ◌∷◌, Option, Some, None, refl}
+use Rattle.std.specs.Prelude.{◌≡◌, ◌⊎◌, List, [], ◌∷◌, ◌++◌, Option, Some, None, refl}
 use Rattle.std.proofs.Common.{sym, ap, ◌∙◌, inl, inr}
 
 -- a line of a table, as what it may tell: it holds, and tells these values
@@ -71,6 +71,32 @@ module _ {R : Type 0} where
 -- a table of such lines has one answer
 pub one_answer_of : {R : Type 0} (lines : List (Line R)) → AreLines lines → OneAnswer lines
 one_answer_of lines are = record { some = some_answer lines are; one = one_answer lines are }
+
+-- ---- a table in two parts
+
+module _ {R : Type 0} where
+  -- the first line of the first part is the first of both
+  pub first_of_front : (front later : List (Line R)) (told : R) → First front (Some told)
+      → First (front ++ later) (Some told)
+  first_of_front [] later told h = absurd h
+  first_of_front (line ∷ front) later told (inl h) = inl h
+  first_of_front (line ∷ front) later told (inr h) = inr (h.0, first_of_front front later told h.1)
+
+  -- where no line of the first part holds, the second part has the answer
+  pub first_of_later : (front later : List (Line R)) (answer : Option R) → First front None → First later answer
+      → First (front ++ later) answer
+  first_of_later [] later answer none h = h
+  first_of_later (line ∷ front) later answer none h =
+      behind line (front ++ later) none.0 answer (first_of_later front later answer none.1 h)
+
+  -- no line of both holds, so none of either does
+  pub none_of_parts : (front later : List (Line R)) → First (front ++ later) None → First front None × First later None
+  none_of_parts [] later h = (tt, h)
+  none_of_parts (line ∷ front) later h = (let parts = none_of_parts front later h.1 in ((h.0, parts.0), parts.1))
+
+  pub lines_of_parts : (front later : List (Line R)) → AreLines front → AreLines later → AreLines (front ++ later)
+  lines_of_parts [] later h k = k
+  lines_of_parts (line ∷ front) later h k = (h.0, lines_of_parts front later h.1 k)
 
 -- ---- lines that are decided
 
