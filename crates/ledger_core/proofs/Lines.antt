@@ -7,6 +7,11 @@ use Rattle.std.proofs.lemmas.Slice.Eq.{bytes_eq-Decides}
 use Rattle.std.specs.Prelude.{bytes_eq, ◌==◌}
 use Rattle.wire.specs.Tables.{Tells, HoldsNot, IsLine, tells_line}
 
+-- what is said of the lines of a table, one after the other
+infixr 5 ◌&◌
+abbrev pub ◌&◌ : {P Q : Type 0} → P → Q → P × Q
+p & q = (p, q)
+
 abbrev pub Decided : Type 0 → Type 0
 Decided P = P ⊎ (P → ⊥)
 

@@ -16,7 +16,7 @@ use Rattle.ledger_core.specs.declared.refusal.BlockRefusal.TheVariants.{B7, B9}
 use Rattle.ledger_core.specs.Roots.{Hash, root_of_none, tx_root, unspent_root}
 use Rattle.ledger_core.specs.Start.{start_lines}
 use Rattle.ledger_core.specs.Refusal.{Refusal, ValidNext, HasVerdictAfter, ProgramFails, header_lines, state_lines, block_lines, context_after, run_limit, tip_of}
-use Rattle.ledger_core.proofs.Lines.{Decided, bytes_decided, nat_decided, nil_decided, not_decided, or_decided, differs_line}
+use Rattle.ledger_core.proofs.Lines.{◌&◌, Decided, bytes_decided, nat_decided, nil_decided, not_decided, or_decided, differs_line}
 use Rattle.ledger_core.proofs.Tips.{some_tip}
 use Rattle.std.proofs.lemmas.Bool.{cases_lt}
 
@@ -31,17 +31,13 @@ OneVerdict = (context : Context) (check : Check) (program : List ℕ) (args : Li
 -- ---- the initial block
 
 start_are_lines : (root : List ℕ) (block : Block) → AreLines (start_lines root block)
-start_are_lines root block = (
-    differs_line _ _ _ (nat_decided block.header.height 1),
-    (
-    differs_line _ _ _ (bytes_decided block.header.previous _),
-    (
-    differs_line _ _ _ (nat_decided block.header.version 1),
-    (
-    tells_line _ _ (or_decided _ _ (not_decided _ (nil_decided block.txs)) (not_decided _ (nil_decided block.args))),
-    (
-    tells_line _ _ (or_decided _ _ (not_decided _ (bytes_decided block.header.tx_root root)) (not_decided _ (bytes_decided block.header.unspent_root root))),
-    tt)))))
+start_are_lines root block =
+    differs_line _ _ _ (nat_decided block.header.height 1)
+    & differs_line _ _ _ (bytes_decided block.header.previous _)
+    & differs_line _ _ _ (nat_decided block.header.version 1)
+    & tells_line _ _ (or_decided _ _ (not_decided _ (nil_decided block.txs)) (not_decided _ (nil_decided block.args)))
+    & tells_line _ _ (or_decided _ _ (not_decided _ (bytes_decided block.header.tx_root root)) (not_decided _ (bytes_decided block.header.unspent_root root)))
+    & tt
 
 pub one_start : (root : List ℕ) (block : Block) → OneAnswer (start_lines root block)
 one_start root block = one_answer_of (start_lines root block) (start_are_lines root block)
@@ -55,19 +51,14 @@ le_decided m n = elim (cases_lt n m) [
 ]
 
 header_are_lines : (tip_id computed : List ℕ) (tip header : Header) → AreLines (header_lines tip_id computed tip header)
-header_are_lines tip_id computed tip header = (
-    differs_line _ _ _ (bytes_decided header.previous tip_id),
-    (
-    differs_line _ _ _ (nat_decided header.height (tip.height + 1)),
-    (
-    tells_line _ _ (le_decided header.time tip.time),
-    (
-    differs_line _ _ _ (nat_decided header.version 1),
-    (
-    free_line,
-    (
-    differs_line _ _ _ (bytes_decided header.tx_root computed),
-    tt))))))
+header_are_lines tip_id computed tip header =
+    differs_line _ _ _ (bytes_decided header.previous tip_id)
+    & differs_line _ _ _ (nat_decided header.height (tip.height + 1))
+    & tells_line _ _ (le_decided header.time tip.time)
+    & differs_line _ _ _ (nat_decided header.version 1)
+    & free_line
+    & differs_line _ _ _ (bytes_decided header.tx_root computed)
+    & tt
 
 same_failure : (k l : Failure) (a b : ℕ) → Failed k a ≡ Failed l b → (k ≡ l) × (a ≡ b)
 same_failure k l a b e = (cc, cc)
@@ -96,7 +87,7 @@ module _ (one : OneVerdict) (hash : Hash) (check : Check) (tip : Header) (block 
     block_are_lines =
         let v = some (context_after hash tip block.header) check tip.next_program block.args run_limit in
         lines_of_parts (header_lines (header_id hash tip) (tx_root hash block) tip block.header) (state_lines hash check blocks tip block) (header_are_lines _ _ tip block.header)
-        (record { decided = program_of v.0 v.1; one = one_failure }, (free_line, (differs_line _ _ _ (bytes_decided block.header.unspent_root _), tt)))
+        (record { decided = program_of v.0 v.1; one = one_failure } & free_line & differs_line _ _ _ (bytes_decided block.header.unspent_root _) & tt)
 
     pub one_line : OneAnswer (block_lines hash check blocks tip block)
     one_line = one_answer_of (block_lines hash check blocks tip block) block_are_lines

@@ -12,10 +12,10 @@ use Rattle.ledger_core.specs.declared.refusal.BlockRefusal.{BlockRefusal}
 use Rattle.ledger_core.specs.declared.refusal.BlockRefusal.TheVariants.{B7}
 use Rattle.ledger_core.specs.declared.refusal.StartFault.TheVariants.{NotEmpty, RootsNotEmpty}
 use Rattle.ledger_core.specs.Roots.{Hash, root_of_none, tx_root}
-use Rattle.ledger_core.specs.Start.{StartRefusal}
+use Rattle.ledger_core.specs.Start.{start_lines, StartRefusal}
 use Rattle.ledger_core.specs.Refusal.{header_lines, state_lines, ProgramFails, HasVerdictAfter, ValidNext, context_after, run_limit, tip_of}
 use Rattle.ledger_core.specs.Valid.{IsInitial, Extends}
-use Rattle.ledger_core.proofs.Lines.{bytes_decided, nat_decided, nil_decided, same, no_difference}
+use Rattle.ledger_core.proofs.Lines.{◌&◌, bytes_decided, nat_decided, nil_decided, same, no_difference}
 use Rattle.ledger_core.proofs.Refusals.{SomeVerdict, OneVerdict, not_failed}
 
 -- ---- two things that may differ, in one line
@@ -43,27 +43,26 @@ module _ {R X Y : Type 0} (a b : X) (c d : Y) (values : R) where
 
 pub initial_from : (hash : Hash) (block : Block) → StartRefusal hash block None → IsInitial hash block
 initial_from hash block h = record {
-  height = same _ _ _ (nat_decided block.header.height 1) h.0;
-  previous = same _ _ _ (bytes_decided block.header.previous _) h.1.0;
-  version = same _ _ _ (nat_decided block.header.version 1) h.1.1.0;
-  txs = first_same block.txs [] block.args [] NotEmpty (nil_decided block.txs) h.1.1.1.0;
-  args = second_same block.txs [] block.args [] NotEmpty (nil_decided block.args) h.1.1.1.0;
-  tx_root = first_same block.header.tx_root (root_of_none hash) block.header.unspent_root (root_of_none hash) RootsNotEmpty (bytes_decided _ _) h.1.1.1.1.0;
-  unspent_root = second_same block.header.tx_root (root_of_none hash) block.header.unspent_root (root_of_none hash) RootsNotEmpty (bytes_decided _ _) h.1.1.1.1.0;
+  height = same _ _ _ (nat_decided block.header.height 1) h.first.0;
+  previous = same _ _ _ (bytes_decided block.header.previous _) h.first.1.0;
+  version = same _ _ _ (nat_decided block.header.version 1) h.first.1.1.0;
+  txs = first_same block.txs [] block.args [] NotEmpty (nil_decided block.txs) h.first.1.1.1.0;
+  args = second_same block.txs [] block.args [] NotEmpty (nil_decided block.args) h.first.1.1.1.0;
+  tx_root = first_same block.header.tx_root (root_of_none hash) block.header.unspent_root (root_of_none hash) RootsNotEmpty (bytes_decided _ _) h.first.1.1.1.1.0;
+  unspent_root = second_same block.header.tx_root (root_of_none hash) block.header.unspent_root (root_of_none hash) RootsNotEmpty (bytes_decided _ _) h.first.1.1.1.1.0;
 }
 
+initial_first : (hash : Hash) (block : Block) → IsInitial hash block → First (start_lines (root_of_none hash) block) None
+initial_first hash block i =
+    no_difference _ _ _ i.height
+    & no_difference _ _ _ i.previous
+    & no_difference _ _ _ i.version
+    & neither block.txs [] block.args [] NotEmpty i.txs i.args
+    & neither block.header.tx_root (root_of_none hash) block.header.unspent_root (root_of_none hash) RootsNotEmpty i.tx_root i.unspent_root
+    & tt
+
 pub initial_to : (hash : Hash) (block : Block) → IsInitial hash block → StartRefusal hash block None
-initial_to hash block i = (
-    no_difference _ _ _ i.height,
-    (
-    no_difference _ _ _ i.previous,
-    (
-    no_difference _ _ _ i.version,
-    (
-    neither block.txs [] block.args [] NotEmpty i.txs i.args,
-    (
-    neither block.header.tx_root (root_of_none hash) block.header.unspent_root (root_of_none hash) RootsNotEmpty i.tx_root i.unspent_root,
-    tt)))))
+initial_to hash block i = record { first = initial_first hash block i }
 
 -- ---- the block after
 
@@ -107,25 +106,23 @@ module _ (hash : Hash) (check : Check) where
   next_to one blocks block h =
       let x = h.2 in
       let none : HoldsNot {R = BlockRefusal} (λ told. ⊥) = λ told f. f in
+      let by_header : First (header_lines (header_id hash h.0.header) (tx_root hash block) h.0.header block.header) None =
+          no_difference _ _ _ x.previous
+          & no_difference _ _ _ x.height
+          & (λ told t. absurd (omega (arith, t.0, x.time)))
+          & no_difference _ _ _ x.version
+          & none
+          & no_difference _ _ _ x.is_tx_root
+          & tt in
+      let by_state : First (state_lines hash check blocks h.0.header block) None =
+          not_failed one hash check h.0.header block x.succeeds.0 x.succeeds.1
+          & none
+          & no_difference _ _ _ x.is_unspent_root
+          & tt in
       record {
         tip = h.0;
         is_tip = h.1;
-        first = first_of_later (header_lines (header_id hash h.0.header) (tx_root hash block) h.0.header block.header) (state_lines hash check blocks h.0.header block) None (
-    no_difference _ _ _ x.previous,
-    (
-    no_difference _ _ _ x.height,
-    (
-    (λ told t. absurd (omega (arith, t.0, x.time))),
-    (
-    no_difference _ _ _ x.version,
-    (
-    none,
-    (
-    no_difference _ _ _ x.is_tx_root,
-    tt)))))) (
-          not_failed one hash check h.0.header block x.succeeds.0 x.succeeds.1,
-          (none, (no_difference _ _ _ x.is_unspent_root, tt)),
-        );
+        first = first_of_later (header_lines (header_id hash h.0.header) (tx_root hash block) h.0.header block.header) (state_lines hash check blocks h.0.header block) None by_header by_state;
       }
 
 -- ---- heights

@@ -23,9 +23,9 @@ start_lines root block =
     ∷ Tells ((block.header.tx_root ≢ root) ⊎ (block.header.unspent_root ≢ root)) RootsNotEmpty
     ∷ []
 
--- The first line that holds of a block which is to start a chain, or none.
-abbrev pub StartRefusal : Hash → Block → Option StartFault → Type 0
-StartRefusal hash block fault = First (start_lines (root_of_none hash) block) fault
+-- The first line of the table that holds of a block which is to start a chain, or none.
+pub record StartRefusal (hash : Hash) (block : Block) (fault : Option StartFault) : Type 0 where
+  pub first : First (start_lines (root_of_none hash) block) fault
 
 -- a start's fault is the first line that holds; want of memory is free
 abbrev pub RefusesStart : Hash → Block → StartFault → Type 0

@@ -25,9 +25,9 @@ impl Model for Ledger {
     ghost Value = { Held };
 
     ghost view = { λ ledger. record {
-        blocks = ledger.blocks;
-        tip_id = ledger.tip_id;
-        empty_root = ledger.empty_root
+      blocks = ledger.blocks;
+      tip_id = ledger.tip_id;
+      empty_root = ledger.empty_root;
     } };
 
     ghost invariant = { λ ledger. (0 < length ledger.blocks) × AllByRecursion IsSpellable ledger.blocks };

@@ -98,12 +98,7 @@ impl Ledger {
 }
 
 // The first of B1 to B6 that holds.
-fn before_run(
-    tip: &Header,
-    tip_id: &Id,
-    computed: &Id,
-    header: &Header,
-) -> Option<BlockRefusal>
+fn before_run(tip: &Header, tip_id: &Id, computed: &Id, header: &Header) -> Option<BlockRefusal>
     requires room { tip.now.height < 2 ^ 63 }
     ensures { First (header_lines tip_id.now computed.now tip.now header.now) result }
 {

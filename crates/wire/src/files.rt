@@ -54,11 +54,7 @@ pub fn read_frames<T: Record>(
 }
 
 // The same, one way.
-fn all_frames<T: Record>(
-    alloc: Global,
-    bytes: &[u8],
-    most: u64,
-) -> Result<Listed<T>, FramesFault>
+fn all_frames<T: Record>(alloc: Global, bytes: &[u8], most: u64) -> Result<Listed<T>, FramesFault>
     ensures found { IfOk result (λ xs. FramesReadAs most T.fits T.spelling T.faults bytes.now (Ok xs)) }
     ensures fault { (f : FileFault)
         → result ≡ Err (FramesFault.At f.index f.at f.kind)
@@ -83,11 +79,7 @@ fn all_frames<T: Record>(
 }
 
 // The record of the frame at this place.
-fn next_frame<T: Record>(
-    alloc: Global,
-    cursor: &mut Cursor<'_>,
-    most: u64,
-) -> Result<T, DataFault>
+fn next_frame<T: Record>(alloc: Global, cursor: &mut Cursor<'_>, most: u64) -> Result<T, DataFault>
     ensures { Answered (FrameFits most T.fits T.spelling) (frame_spelling T.spelling)
         (FrameFault most T.fits T.spelling T.faults) cursor.old cursor.new result }
 {
