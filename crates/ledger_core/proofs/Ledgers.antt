@@ -5,7 +5,7 @@ use Rattle.data_model.specs.declared.block.Block.{Block}
 use Rattle.entry_ids.specs.Entry.{header_id}
 use Rattle.vm_run.specs.Row.{Check}
 use Rattle.ledger_core.specs.Held.{Held, IsSpellable}
-use Rattle.ledger_core.specs.Roots.{Hash, root_of_none}
+use Rattle.ledger_core.specs.Roots.{Hash}
 use Rattle.ledger_core.specs.Refusal.{ValidNext, tip_of}
 use Rattle.ledger_core.specs.Chain.{Chain, StandsFor}
 use Rattle.ledger_core.proofs.Tips.{tip_of_more}

@@ -1,7 +1,7 @@
 -- Of each table there is one answer, and a block that is offered has one refusal, or none.
-use Rattle.std.proofs.Common.{◌≡◌, ◌≢◌, ℕ, ◌+◌, ◌-◌, ◌≤◌, ◌<◌, List, [], length, get_or, Option, Some, None, refl, sym, ◌∙◌, ap, subst, inl, inr, arith}
+use Rattle.std.proofs.Common.{◌≡◌, ◌≢◌, ℕ, ◌+◌, ◌-◌, ◌≤◌, ◌<◌, List, length, get_or, Option, Some, None, refl, sym, ◌∙◌, subst, inl, inr, arith}
 use Rattle.std.specs.Prelude.{◌⊎◌}
-use Rattle.wire.specs.Tables.{Tells, Free, HoldsNot, IsLine, AreLines, First, OneAnswer, one_answer_of, lines_of_parts, tells_line, free_line, first_of_front, first_of_later}
+use Rattle.wire.specs.Tables.{Free, HoldsNot, AreLines, First, OneAnswer, one_answer_of, lines_of_parts, tells_line, free_line, first_of_front, first_of_later}
 use Rattle.data_model.specs.declared.header.Header.{Header}
 use Rattle.data_model.specs.declared.block.Block.{Block}
 use Rattle.entry_ids.specs.Entry.{header_id}
@@ -13,7 +13,7 @@ use Rattle.vm_run.specs.Row.{Check}
 use Rattle.vm_run.specs.Verdict.{HasVerdict}
 use Rattle.ledger_core.specs.declared.refusal.BlockRefusal.{BlockRefusal}
 use Rattle.ledger_core.specs.declared.refusal.BlockRefusal.TheVariants.{B7, B9}
-use Rattle.ledger_core.specs.Roots.{Hash, root_of_none, tx_root, unspent_root}
+use Rattle.ledger_core.specs.Roots.{Hash, root_of_none, tx_root}
 use Rattle.ledger_core.specs.Start.{start_lines}
 use Rattle.ledger_core.specs.Refusal.{Refusal, ValidNext, HasVerdictAfter, ProgramFails, header_lines, state_lines, block_lines, context_after, run_limit, tip_of}
 use Rattle.ledger_core.proofs.Lines.{◌&◌, Decided, bytes_decided, nat_decided, nil_decided, not_decided, or_decided, differs_line}

@@ -1,5 +1,5 @@
 -- What blocks have that start a chain or extend one.
-use Rattle.std.proofs.Common.{◌≡◌, ◌≢◌, ℕ, ◌+◌, ◌≤◌, ◌<◌, List, [], length, Some, None, refl, sym, ◌∙◌, ap, subst, inl, inr, arith}
+use Rattle.std.proofs.Common.{◌≡◌, ◌≢◌, ℕ, ◌+◌, ◌≤◌, ◌<◌, List, [], Some, None, refl, sym, ◌∙◌, ap, inl, inr, arith}
 use Rattle.std.specs.Prelude.{◌⊎◌}
 use Rattle.std.proofs.lemmas.Bool.{cases_lt}
 use Rattle.wire.specs.Tables.{HoldsNot, Tells, First, first_of_later, none_of_parts}
@@ -107,18 +107,18 @@ module _ (hash : Hash) (check : Check) where
       let x = h.2 in
       let none : HoldsNot {R = BlockRefusal} (λ told. ⊥) = λ told f. f in
       let by_header : First (header_lines (header_id hash h.0.header) (tx_root hash block) h.0.header block.header) None =
-          no_difference _ _ _ x.previous
-          & no_difference _ _ _ x.height
-          & (λ told t. absurd (omega (arith, t.0, x.time)))
-          & no_difference _ _ _ x.version
-          & none
-          & no_difference _ _ _ x.is_tx_root
-          & tt in
+      no_difference _ _ _ x.previous
+      & no_difference _ _ _ x.height
+      & (λ told t. absurd (omega (arith, t.0, x.time)))
+      & no_difference _ _ _ x.version
+      & none
+      & no_difference _ _ _ x.is_tx_root
+      & tt in
       let by_state : First (state_lines hash check blocks h.0.header block) None =
-          not_failed one hash check h.0.header block x.succeeds.0 x.succeeds.1
-          & none
-          & no_difference _ _ _ x.is_unspent_root
-          & tt in
+      not_failed one hash check h.0.header block x.succeeds.0 x.succeeds.1
+      & none
+      & no_difference _ _ _ x.is_unspent_root
+      & tt in
       record {
         tip = h.0;
         is_tip = h.1;

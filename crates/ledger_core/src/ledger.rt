@@ -8,8 +8,8 @@ use data_model::{Block, Blocks};
 use std::marker::Model;
 use wire::Id;
 
-/// A chain of blocks, from its initial block on. It is seen as its blocks, the id of the last of them and the root of no
-/// ids, and stands for the hash and the check of signatures that it was made with.
+/// A chain of blocks, from its initial block on. It is seen as its blocks, the id of the last of them and the root of
+/// no ids, and stands for the hash and the check of signatures that it was made with.
 #[derive(Debug, Drop)]
 pub struct Ledger {
     pub(crate) blocks: Blocks,

@@ -1,5 +1,5 @@
 -- Files of records: they read as one thing, and what a loop reads is that.
-use Rattle.std.proofs.Common.{◌≡◌, ◌≢◌, ℕ, zero, suc, ◌+◌, ◌-◌, ◌≤◌, ◌<◌, List, [], ◌∷◌, ◌++◌, length, Result, Ok, Err, refl, sym, ap, subst, ◌∙◌, append_assoc, inl, inr, arith}
+use Rattle.std.proofs.Common.{◌≡◌, ℕ, zero, suc, ◌+◌, ◌≤◌, ◌<◌, List, [], ◌∷◌, ◌++◌, length, Result, Ok, Err, refl, sym, ap, subst, ◌∙◌, append_assoc, inl, inr, arith}
 use Rattle.std.specs.Prelude.{◌⊎◌, IfOk}
 use Rattle.std.specs.List.{flat_map, AllByRecursion}
 use Rattle.std.proofs.lemmas.List.{length-append, append-nil}
@@ -13,7 +13,7 @@ use Rattle.wire.specs.declared.files.FramesFault.TheVariants.{At, NoMemory}
 use Rattle.wire.specs.Spelling.{AreBytes}
 use Rattle.wire.specs.Places.{Place, Fault, Reading, Reads}
 use Rattle.wire.specs.FirstFault.{Faults}
-use Rattle.wire.specs.Readers.{Answers, Answered, FaultAt, IsReader}
+use Rattle.wire.specs.Readers.{Answers, Answered, IsReader}
 use Rattle.wire.specs.LayoutLaws.{BeginsAs, SpellingLaws}
 use Rattle.wire.specs.Files.{FileFault, FirstFileFault, FileReadsAs, FileLaws, FileGives}
 

@@ -7,7 +7,7 @@ use Rattle.wire.specs.declared.fault.DataKind.TheVariants.{Trailing}
 use Rattle.wire.specs.Spelling.{AreBytes, varint, varstring}
 use Rattle.wire.specs.Places.{Place, Fault, Reading, ◌>>=◌, fault_here, ended, whole_at, text_at, inside, frame_at}
 use Rattle.wire.specs.Layout.{IsNumber, FrameFits, frame_spelling}
-use Rattle.wire.specs.FirstFault.{Faults, FaultHere, Either, Left, WholeFault, InFrame, TextFault, FrameFault}
+use Rattle.wire.specs.FirstFault.{Faults, FaultHere, Left, WholeFault, InFrame, TextFault, FrameFault}
 use Rattle.wire.specs.Readers.{Passes, Answers, fault_at, IsReader, WholeAnswers, IsWholeReader}
 use Rattle.wire.proofs.Readers.{Passes-behind, behind, same_fault}
 use Rattle.wire.proofs.FieldReaders.{text_reader}

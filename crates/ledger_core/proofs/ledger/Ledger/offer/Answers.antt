@@ -1,4 +1,4 @@
-use Rattle.std.proofs.Common.{[], ◌∷◌, ◌++◌, sym, ◌∙◌, ap, subst}
+use Rattle.std.proofs.Common.{[], ◌∷◌, ◌++◌, ◌∙◌, ap}
 use Rattle.data_model.specs.declared.block.Block.{Block}
 use Rattle.ledger_core.specs.Held.{Held}
 use Rattle.ledger_core.proofs.Ledgers.{stands_more}
