@@ -21,7 +21,10 @@ fn blocks_again(rt: HostRuntime) -> Result<(), Fail> {
     assert_eq!(rt; block.args.len(), 2);
     assert_eq!(rt; encode_block(alloc, &block)?.as_slice(), bytes.as_slice());
     let file = frame(alloc, &block)?;
-    assert_eq!(rt; file.as_slice().split_first(), Some((&108, bytes.as_slice())));
+    assert_eq!(rt;
+        file.as_slice().split_first(),
+        Some((&108, bytes.as_slice()))
+    );
     assert_eq!(rt; read_blocks(alloc, &file)?.len(), 1);
     let mut blocks = Blocks::new(alloc);
     blocks.push(block)?;

@@ -118,7 +118,11 @@ fn files_of_entries(rt: HostRuntime) -> Result<(), Fail> {
     ];
     for (bytes, index, at, kind) in faults {
         let read: Result<Listed<Entry>, FramesFault> = read_frames(rt.alloc(), bytes, 8);
-        assert_eq!(rt; read.err(), Some(FramesFault::At { index, at, kind }), "{bytes:?}");
+        assert_eq!(rt;
+            read.err(),
+            Some(FramesFault::At { index, at, kind }),
+            "{bytes:?}"
+        );
     }
     Ok(())
 }

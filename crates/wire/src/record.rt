@@ -1,11 +1,8 @@
 //! Records that are read from bytes and written to them, and lists and frames of them.
-ghost use Rattle.std.specs.Prelude.{◌≡◌, ◌↔◌, ◌==◌, ◌≤◌, ◌<◌, ◌^◌, ◌++◌, ◌-◌, [], ◌∷◌, ℕ, List, length, Ok, Err, OnOk};
-ghost use Rattle.std.specs.Prelude.{OnErr, IfOk};
-ghost use Rattle.std.specs.List.{flat_map, AllByRecursion};
-ghost use Rattle.wire.specs.Spelling.{varint, varstring};
+ghost use Rattle.std.specs.Prelude.{◌≡◌, ◌≤◌, ◌++◌, ◌-◌, ℕ, List, length, Ok, Err, OnOk, OnErr, IfOk};
+ghost use Rattle.wire.specs.Spelling.{varstring};
 ghost use Rattle.wire.specs.Places.{Place, Fault, Reading, Reads, Gives, start, passes_room, item_at, items_at};
 ghost use Rattle.wire.specs.Places.{many_at, whole_at, frame_at};
-ghost use Rattle.wire.specs.Layout.{IsNumber};
 ghost use Rattle.wire.specs.FirstFault.{Faults, WholeFault};
 ghost use Rattle.wire.specs.Readers.{IsReader, IsWholeReader};
 ghost use Rattle.wire.specs.LayoutLaws.{SpellingLaws};
