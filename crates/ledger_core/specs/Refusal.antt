@@ -1,6 +1,6 @@
 -- Which blocks extend a chain: the table of refusals, B1 to B9.
 use Rattle.std.specs.Prelude.{◌≡◌, ◌≢◌, ◌≤◌, ℕ, ◌+◌, ◌-◌, List, [], ◌∷◌, ◌++◌, length, slice_get, Option}
-use Rattle.std.specs.Prelude.{Some, None}
+use Rattle.std.specs.Prelude.{Some, None, Result, Ok, Err}
 use Rattle.wire.specs.Tables.{Line, Tells, Free, First}
 use Rattle.data_model.specs.declared.header.Header.{Header}
 use Rattle.data_model.specs.declared.block.Block.{Block}
@@ -98,3 +98,9 @@ ValidNext hash check blocks block = Refusal hash check blocks block None
 abbrev pub Refuses : Hash → Check → List Block → Block → OfferFault → Type 0
 Refuses hash check blocks block (Refused line) = Refusal hash check blocks block (Some line)
 Refuses hash check blocks block NoMemory = Unit {0}
+
+-- what is found out of an offered block: where it extends these, its id and the block again; else why it does not
+abbrev pub Checked : Hash → Check → List Block → Block → Result (List ℕ × Block) OfferFault → Type 0
+Checked hash check blocks block (Ok x) =
+    ValidNext hash check blocks block × (x.0 ≡ header_id hash block.header) × (x.1 ≡ block)
+Checked hash check blocks block (Err fault) = Refuses hash check blocks block fault

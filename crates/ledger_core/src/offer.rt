@@ -4,7 +4,7 @@ ghost use Rattle.data_model.specs.Layout.{most_txs};
 ghost use Rattle.data_model.specs.Spelling.{IsHeader};
 ghost use Rattle.wire.specs.Tables.{First};
 ghost use Rattle.ledger_core.specs.Roots.{Hash};
-ghost use Rattle.ledger_core.specs.Refusal.{Refuses, ValidNext, HasVerdictAfter, header_lines};
+ghost use Rattle.ledger_core.specs.Refusal.{Refuses, ValidNext, Checked, HasVerdictAfter, header_lines};
 ghost use Rattle.ledger_core.specs.Chain.{StandsFor};
 
 use crate::{BlockRefusal, Ledger, OfferFault};
@@ -69,11 +69,7 @@ impl Ledger {
         requires stands { StandsFor (H.hash_of hash.now) (C.good_of sigs.now) self.now }
         requires header { IsHeader block.header }
         requires room { length self.now.blocks < 2 ^ 40 }
-        ensures valid { OnOk result (ValidNext (H.hash_of hash.now) (C.good_of sigs.now) self.now.blocks block) }
-        ensures id { IfOk result (λ x. x.0 ≡ header_id (H.hash_of hash.now) block.header) }
-        ensures same { IfOk result (λ x. x.1 ≡ block) }
-        ensures refused { IfErr result
-            (λ fault. Refuses (H.hash_of hash.now) (C.good_of sigs.now) self.now.blocks block fault) }
+        ensures { Checked (H.hash_of hash.now) (C.good_of sigs.now) self.now.blocks block result }
     {
         one_verdict();
         let tip = &self.tip_block().header;

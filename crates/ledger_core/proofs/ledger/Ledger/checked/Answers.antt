@@ -8,8 +8,8 @@ use Rattle.ledger_core.proofs.Refusals.{by_program, by_root, by_nothing}
 use Rattle.ledger_core.proofs.Ledgers.{offered}
 use Rattle.ledger_core.proofs.ledger.Ledger.checked.Goals as goal
 
-pub returns-in-Failed-clause-refused : goal.returns-in-Failed-clause-refused
-returns-in-Failed-clause-refused g c =
+pub returns-in-Failed : goal.returns-in-Failed
+returns-in-Failed g c =
     let hash = g.H.IdHash.hash_of c.args.hash.now in
     let check = g.C.SigCheck.good_of c.args.sigs.now in
     let tip = c.tip_block.result.now in
@@ -17,8 +17,8 @@ returns-in-Failed-clause-refused g c =
     by_program hash check c.args.self.now.blocks c.args.block tip _ _ held c.in-Failed.kind c.in-Failed.at c.in_default.ensures
     (subst (λ (v : Verdict). HasVerdictAfter hash check tip.header c.args.block.header c.args.block.args v) c.in-Failed.is (c.in_ok-verdict.ensures.verdict hash c.in_ok-id.ensures))
 
-pub returns-then-ne-clause-refused : goal.returns-then-ne-clause-refused
-returns-then-ne-clause-refused g c =
+pub returns-then-ne : goal.returns-then-ne
+returns-then-ne g c =
     let hash = g.H.IdHash.hash_of c.args.hash.now in
     let check = g.C.SigCheck.good_of c.args.sigs.now in
     let tip = c.tip_block.result.now in
@@ -29,8 +29,8 @@ returns-then-ne-clause-refused g c =
     subst (λ (h : Header). Refusal hash check c.args.self.now.blocks c.args.block (Some (B9 c.self.inside.empty_root h.unspent_root))) (sym c.in_ok-verdict.ensures.same)
     (by_root hash check c.args.self.now.blocks c.args.block tip _ _ held c.one_verdict.ensures.one _ c.in_default.ensures has (λ e. others (root ∙ e)))
 
-pub returns-clause-valid : goal.returns-clause-valid
-returns-clause-valid g c =
+pub returns : goal.returns
+returns g c =
     let hash = g.H.IdHash.hash_of c.args.hash.now in
     let check = g.C.SigCheck.good_of c.args.sigs.now in
     let tip = c.tip_block.result.now in
@@ -38,4 +38,5 @@ returns-clause-valid g c =
     let has = subst (λ (v : Verdict). HasVerdictAfter hash check tip.header c.args.block.header c.args.block.args v) c.in_default-verdict.is (c.in_ok-verdict.ensures.verdict hash c.in_ok-id.ensures) in
     let root = ap (λ (h : Header). h.unspent_root) c.in_ok-verdict.ensures.same in
     let same = are_same c.in_ok-verdict.header.unspent_root c.self.inside.empty_root c.ne.result c.ne.ensures c.if-ne.false in
-    by_nothing hash check c.args.self.now.blocks c.args.block tip _ _ held c.one_verdict.ensures.one _ c.in_default.ensures has (sym root ∙ same)
+    let valid = by_nothing hash check c.args.self.now.blocks c.args.block tip _ _ held c.one_verdict.ensures.one _ c.in_default.ensures has (sym root ∙ same) in
+    (valid, c.in_ok-id.ensures, λ i. record { header = c.in_ok-verdict.ensures.same i; args = c.args.block.args; txs = c.args.block.txs })
