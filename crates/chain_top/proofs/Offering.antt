@@ -4,7 +4,7 @@ use Rattle.std.specs.List.{AllByRecursion}
 use Rattle.std.proofs.lemmas.List.{append-nil, length-append}
 use Rattle.data_model.specs.declared.block.Block.{Block}
 use Rattle.vm_run.specs.Row.{Check}
-use Rattle.vm_run.proofs.Outcomes.{some_verdict}
+use Rattle.vm_run.proofs.Outcomes.{some_verdict, one_verdict}
 use Rattle.ledger_core.specs.declared.refusal.BlockRefusal.{BlockRefusal}
 use Rattle.ledger_core.specs.Refusal.{Refusal, ValidNext}
 use Rattle.ledger_core.proofs.Refusals.{some_refusal}
@@ -28,7 +28,7 @@ use Rattle.ledger_core.proofs.Chains.{not_empty}
 
 -- what one offer tells
 pub some_tells : (hash : Hash) (check : Check) (ledger : Word) (blocks : List Block) (block : Block) → 0 < length blocks → (after : List Block) × (text : List ℕ) × (writes : List Write) × OfferTells hash check ledger blocks block after text writes × (0 < length after)
-some_tells hash check ledger blocks block some = by_refusal (some_refusal some_verdict hash check blocks block some)
+some_tells hash check ledger blocks block some = by_refusal (some_refusal some_verdict one_verdict hash check blocks block some)
   where
     by_refusal : (line : Option BlockRefusal) × Refusal hash check blocks block line → (after : List Block) × (text : List ℕ) × (writes : List Write) × OfferTells hash check ledger blocks block after text writes × (0 < length after)
     by_refusal (None, valid) = (_, _, _, accepted valid, omega (arith, length-append blocks (block ∷ [])))

@@ -3,11 +3,13 @@ use Rattle.std.proofs.Common.{◌≡◌, ◌⊎◌, ℕ, suc, ◌+◌, ◌<◌, 
 use Rattle.std.proofs.lemmas.List.{append-nil}
 use Rattle.data_model.specs.declared.block.Block.{Block}
 use Rattle.vm_run.specs.Row.{Check}
-use Rattle.vm_run.proofs.Outcomes.{one_verdict}
+use Rattle.vm_run.proofs.Outcomes.{some_verdict, one_verdict}
 use Rattle.wire.specs.Spelling.{AreBytes}
 use Rattle.ledger_core.specs.declared.refusal.BlockRefusal.{BlockRefusal}
 use Rattle.ledger_core.specs.declared.refusal.StartFault.{StartFault}
-use Rattle.ledger_core.specs.Refusal.{Refusal, ValidNext, start_fault}
+use Rattle.ledger_core.specs.Roots.{root_of_none}
+use Rattle.ledger_core.specs.Start.{StartRefusal}
+use Rattle.ledger_core.specs.Refusal.{Refusal, ValidNext}
 use Rattle.ledger_core.specs.Chain.{GoesOn, Chain}
 use Rattle.ledger_core.proofs.Refusals as refusals
 use Rattle.outside.specs.Files.{Content, Read, Write}
@@ -91,8 +93,8 @@ no_behind : (xs : List Block) (y : Block) (ys : List Block) → [] ≡ xs ++ y �
 no_behind [] y ys e = cc
 no_behind (x ∷ xs) y ys e = cc
 
-start_twice : (f : StartFault) (r : Option StartFault) → r ≡ Some f → r ≡ None → ⊥
-start_twice f r some gone = (let e : Some f ≡ None = sym some ∙ gone in cc)
+start_twice : (hash : Hash) (i : Block) (f : StartFault) → StartRefusal hash i (Some f) → StartRefusal hash i None → ⊥
+start_twice hash i f some gone = (let e : Some f ≡ None = (refusals.one_start (root_of_none hash) i).one (Some f) None some.first gone.first in cc)
 
 line_twice : (line : BlockRefusal) → Some line ≡ None → ⊥
 line_twice line e = cc
@@ -102,7 +104,7 @@ same_line m n e = cc
 
 module _ (hash : Hash) (check : Check) where
   one_refusal : (bs : List Block) (b : Block) (m n : Option BlockRefusal) → Refusal hash check bs b m → Refusal hash check bs b n → m ≡ n
-  one_refusal bs b m n p q = refusals.one_refusal one_verdict hash check bs b m n p q
+  one_refusal bs b m n p q = refusals.one_refusal some_verdict one_verdict hash check bs b m n p q
 
   -- a block that extends the chain is not refused
   extends_or_not : (bs : List Block) (b c : Block) (m : BlockRefusal) → b ≡ c → ValidNext hash check bs b → Refusal hash check bs c (Some m) → ⊥
@@ -148,8 +150,8 @@ module _ (hash : Hash) (check : Check) where
   chain_good [] b later m all front why = front
   chain_good (i ∷ before) b later m all front why = none_bad (i ∷ []) before b later m all.1 why
 
-  chain_starts : (i : Block) (later : List Block) (f : StartFault) → Chain hash check (i ∷ later) → start_fault hash i ≡ Some f → ⊥
-  chain_starts i later f all is = start_twice f (start_fault hash i) is all.0
+  chain_starts : (i : Block) (later : List Block) (f : StartFault) → Chain hash check (i ∷ later) → StartRefusal hash i (Some f) → ⊥
+  chain_starts i later f all is = start_twice hash i f is all.0
 
   no_chain_twice : (bs : List Block) (line : List ℕ) → NoChain hash check bs line → Chain hash check bs → ⊥
   no_chain_twice bs line (empty is) all = subst (Chain hash check) is all
@@ -157,11 +159,11 @@ module _ (hash : Hash) (check : Check) where
   no_chain_twice bs line (no_next before b later m is front why) all = chain_good before b later m (subst (Chain hash check) is all) front why
 
   -- the first block of what is a chain up to a refused one starts it
-  begins : (i : Block) (later before : List Block) (b : Block) (us : List Block) (f : StartFault) → i ∷ later ≡ before ++ b ∷ us → Chain hash check before → start_fault hash i ≡ Some f → ⊥
+  begins : (i : Block) (later before : List Block) (b : Block) (us : List Block) (f : StartFault) → i ∷ later ≡ before ++ b ∷ us → Chain hash check before → StartRefusal hash i (Some f) → ⊥
   begins i later [] b us f e front is = front
   begins i later (j ∷ before) b us f e front is =
       let same : j ≡ i = sym (one_front i j later (before ++ b ∷ us) e).0 in
-      start_twice f (start_fault hash i) is (subst (λ (x : Block). start_fault hash x ≡ None) same front.0)
+      start_twice hash i f is (subst (λ (x : Block). StartRefusal hash x None) same front.0)
 
   two_bad : (before others : List Block) (b c : Block) (us vs : List Block) (m n : BlockRefusal) → before ++ b ∷ us ≡ others ++ c ∷ vs → Chain hash check before → Chain hash check others → Refusal hash check before b (Some m) → Refusal hash check others c (Some n) → (length before ≡ length others) × (m ≡ n)
   two_bad [] others b c us vs m n e front there why not = absurd front
@@ -180,7 +182,8 @@ module _ (hash : Hash) (check : Check) where
   one_why bs line other (no_start i later f is why) (empty same) = absurd (no_cons i later (sym same ∙ is))
   one_why bs line other (no_start i later f is why) (no_start j others g same not) =
       let first : i ≡ j = (one_front i j later others (sym is ∙ same)).0 in
-      let faults : Some f ≡ Some g = sym why ∙ ap (λ (x : Block). start_fault hash x) first ∙ not in
+      let there : StartRefusal hash j (Some f) = subst (λ (x : Block). StartRefusal hash x (Some f)) first why in
+      let faults : Some f ≡ Some g = (refusals.one_start (root_of_none hash) j).one (Some f) (Some g) there.first not.first in
       let alike : f ≡ g = cc in
       ap (λ (x : StartFault). refused_ledger 0 (start_words x)) alike
   one_why bs line other (no_start i later f is why) (no_next before b us m same front not) = absurd (begins i later before b us f (sym is ∙ same) front why)

@@ -4,12 +4,14 @@ use Rattle.std.proofs.lemmas.List.{append-nil}
 use Rattle.std.specs.Prelude.{◌⊎◌}
 use Rattle.data_model.specs.declared.block.Block.{Block}
 use Rattle.vm_run.specs.Row.{Check}
-use Rattle.vm_run.proofs.Outcomes.{some_verdict}
+use Rattle.vm_run.proofs.Outcomes.{some_verdict, one_verdict}
 use Rattle.ledger_core.specs.declared.refusal.BlockRefusal.{BlockRefusal}
 use Rattle.ledger_core.specs.declared.refusal.StartFault.{StartFault}
-use Rattle.ledger_core.specs.Refusal.{Hash, start_fault, Refusal, ValidNext}
+use Rattle.ledger_core.specs.Roots.{root_of_none}
+use Rattle.ledger_core.specs.Start.{StartRefusal}
+use Rattle.ledger_core.specs.Refusal.{Hash, Refusal, ValidNext}
 use Rattle.ledger_core.specs.Chain.{Chain}
-use Rattle.ledger_core.proofs.Refusals.{some_refusal}
+use Rattle.ledger_core.proofs.Refusals.{some_refusal, one_start}
 use Rattle.ledger_core.proofs.Chains.{grows, not_empty}
 use Rattle.outside.specs.Files.{Content}
 use Rattle.chain_top.specs.declared.load.Stopped.{Stopped}
@@ -36,21 +38,23 @@ Either hash check blocks = ((line : List ℕ) × NoChain hash check blocks line)
 go_on : (hash : Hash) (check : Check) (all before rest : List Block) → all ≡ before ++ rest → Chain hash check before → Either hash check all
 go_on hash check all before [] is front = inr (subst (Chain hash check) (sym (is ∙ append-nil before)) front)
 go_on hash check all before (block ∷ rest) is front =
-    by_refusal (some_refusal some_verdict hash check before block (not_empty hash check before front))
+    by_refusal (some_refusal some_verdict one_verdict hash check before block (not_empty hash check before front))
     (λ valid. go_on hash check all (before ++ block ∷ []) rest (is ∙ sym (append_assoc before (block ∷ []) rest)) (grows hash check before block front valid))
   where
     by_refusal : (line : Option BlockRefusal) × Refusal hash check before block line → (ValidNext hash check before block → Either hash check all) → Either hash check all
     by_refusal (Some line, first) more = inl (_, no_next before block rest line is front first)
     by_refusal (None, valid) more = more valid
 
-by_start : (hash : Hash) (check : Check) (initial : Block) (later : List Block) (fault : Option StartFault) → start_fault hash initial ≡ fault → Either hash check (initial ∷ later)
+by_start : (hash : Hash) (check : Check) (initial : Block) (later : List Block) (fault : Option StartFault) → StartRefusal hash initial fault → Either hash check (initial ∷ later)
 by_start hash check initial later (Some fault) is = inl (_, no_start initial later fault refl is)
 by_start hash check initial later None is = go_on hash check (initial ∷ later) (initial ∷ []) later refl (is, tt)
 
 -- blocks are a chain, or a line says why not
 pub chain_or_not : (hash : Hash) (check : Check) (blocks : List Block) → ((line : List ℕ) × NoChain hash check blocks line) ⊎ Chain hash check blocks
 chain_or_not hash check [] = inl (_, empty refl)
-chain_or_not hash check (initial ∷ later) = by_start hash check initial later (start_fault hash initial) refl
+chain_or_not hash check (initial ∷ later) =
+    let answer = (one_start (root_of_none hash) initial).some in
+    by_start hash check initial later answer.0 (record { first = answer.1 })
 
 -- ---- ledgers
 

@@ -6,7 +6,8 @@ use Rattle.vm_run.specs.Row.{Check}
 use Rattle.wire.specs.Spelling.{AreBytes}
 use Rattle.ledger_core.specs.declared.refusal.BlockRefusal.{BlockRefusal}
 use Rattle.ledger_core.specs.declared.refusal.StartFault.{StartFault}
-use Rattle.ledger_core.specs.Refusal.{Hash, start_fault, Refusal}
+use Rattle.ledger_core.specs.Start.{StartRefusal}
+use Rattle.ledger_core.specs.Refusal.{Hash, Refusal}
 use Rattle.ledger_core.specs.Chain.{Chain}
 use Rattle.outside.specs.Files.{Content, Read}
 use Rattle.chain_top.specs.Frames.{FileFault, FirstFileFault, FileReadsAs}
@@ -59,7 +60,7 @@ pub data NoChain (hash : Hash) (check : Check) (blocks : List Block) : List ℕ 
   no_start :
       (initial : Block) (later : List Block) (fault : StartFault)
       → blocks ≡ initial ∷ later
-      → start_fault hash initial ≡ Some fault
+      → StartRefusal hash initial (Some fault)
       → NoChain hash check blocks (refused_ledger 0 (start_words fault))
   -- a later one does not extend those before it
   no_next :

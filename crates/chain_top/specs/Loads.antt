@@ -7,7 +7,8 @@ use Rattle.wire.specs.Spelling.{AreBytes}
 use Rattle.ledger_core.specs.declared.refusal.BlockRefusal.{BlockRefusal}
 use Rattle.ledger_core.specs.declared.refusal.StartFault.{StartFault}
 use Rattle.ledger_core.specs.Held.{Held}
-use Rattle.ledger_core.specs.Refusal.{start_fault, Refusal}
+use Rattle.ledger_core.specs.Start.{StartRefusal}
+use Rattle.ledger_core.specs.Refusal.{Refusal}
 use Rattle.outside.specs.Fault.{Rose}
 use Rattle.outside.specs.Files.{Content, Read}
 use Rattle.chain_top.specs.declared.load.Stopped.{Stopped}
@@ -74,7 +75,7 @@ BlocksRead place bytes (Err NoMemory) = Unit {0}
 abbrev pub NotStarted : Hash → Block → Stopped → Type 0
 NotStarted hash block (Refused line) =
     (fault : StartFault)
-    × (start_fault hash block ≡ Some fault)
+    × StartRefusal hash block (Some fault)
     × (string_bytes line ≡ refused_ledger 0 (start_words fault))
 NotStarted hash block ReadFault = ⊥
 NotStarted hash block NoMemory = Unit {0}

@@ -1,1 +1,2 @@
 pub mod BlockRecords
+pub mod FrameLengths

@@ -2,3 +2,4 @@ pub mod Layout
 pub mod Spelling
 pub mod Reading
 pub mod Laws
+pub mod Files

@@ -2,7 +2,7 @@ ghost use Rattle.std.specs.Prelude.{◌≡◌, IfOk};
 
 use crate::OutputBody;
 use std::alloc::Global;
-use wire::{Args, Bytes, Id, NoMemory};
+use wire::{Args, Bytes, Id, NoMemory, Twin};
 
 /// Where a transaction's value comes from.
 #[derive(Debug, Drop)]
@@ -41,11 +41,8 @@ pub struct Spend {
     pub args: Args,
 }
 
-impl Input {
-    // An equal input.
-    pub(crate) fn copy(&self, alloc: Global) -> Result<Input, NoMemory>
-        ensures { IfOk result (λ input. input ≡ self.now) }
-    {
+impl Twin for Input {
+    fn copy(&self, alloc: Global) -> Result<Input, NoMemory> {
         match self {
             Input::Issue(issue) => Ok(Input::Issue(issue.copy(alloc)?)),
             Input::Spend(spend) => Ok(Input::Spend(spend.copy(alloc)?)),

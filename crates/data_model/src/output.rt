@@ -1,7 +1,7 @@
 ghost use Rattle.std.specs.Prelude.{◌≡◌, IfOk};
 
 use std::alloc::Global;
-use wire::{Bytes, Id, NoMemory};
+use wire::{Bytes, Id, NoMemory, Twin};
 
 /// Where a transaction's value goes.
 #[derive(Debug, Drop)]
@@ -31,11 +31,8 @@ pub struct Retire {
     pub refdata: Bytes,
 }
 
-impl Output {
-    // An equal output.
-    pub(crate) fn copy(&self, alloc: Global) -> Result<Output, NoMemory>
-        ensures { IfOk result (λ output. output ≡ self.now) }
-    {
+impl Twin for Output {
+    fn copy(&self, alloc: Global) -> Result<Output, NoMemory> {
         match self {
             Output::Control(control) => Ok(Output::Control(control.copy(alloc)?)),
             Output::Retire(retire) => Ok(Output::Retire(retire.copy(alloc)?)),

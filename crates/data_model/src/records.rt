@@ -1,10 +1,7 @@
 //! Headers and blocks as records: how each is read at a place, and written.
 use crate::{Block, Header, Txs};
 use std::alloc::Global;
-use wire::{
-    Bytes, Cursor, DataFault, NoMemory, Record, layout_readings, put_varint, put_varstring,
-    write_many,
-};
+use wire::{Bytes, Cursor, DataFault, NoMemory, Record, Writer, layout_readings};
 
 const MAX_NUMBER: u64 = (1 << 63) - 1;
 
@@ -48,14 +45,14 @@ impl Record for Header {
     }
 
     #[tactic(auto, unfolding(crate::specs::Spelling::header_spelling))]
-    fn write(&self, _alloc: Global, out: &mut Bytes) -> Result<(), NoMemory> {
-        put_varint(out, self.version)?;
-        put_varint(out, self.height)?;
-        out.extend_from_slice(&self.previous)?;
-        put_varint(out, self.time)?;
-        out.extend_from_slice(&self.tx_root)?;
-        out.extend_from_slice(&self.unspent_root)?;
-        put_varstring(out, self.next_program.as_slice())
+    fn write(&self, out: &mut Writer) -> Result<(), NoMemory> {
+        out.number(self.version)?;
+        out.number(self.height)?;
+        out.raw(&self.previous)?;
+        out.number(self.time)?;
+        out.raw(&self.tx_root)?;
+        out.raw(&self.unspent_root)?;
+        out.text(self.next_program.as_slice())
     }
 
     fn readings() {
@@ -89,10 +86,10 @@ impl Record for Block {
     }
 
     #[tactic(auto, unfolding(crate::specs::Spelling::block_spelling))]
-    fn write(&self, alloc: Global, out: &mut Bytes) -> Result<(), NoMemory> {
-        self.header.write(alloc, out)?;
-        write_many(alloc, out, self.args.as_slice())?;
-        put_varint(out, self.txs.len() as u64)
+    fn write(&self, out: &mut Writer) -> Result<(), NoMemory> {
+        self.header.write(out)?;
+        out.many(self.args.as_slice())?;
+        out.number(self.txs.len() as u64)
     }
 
     fn readings() {

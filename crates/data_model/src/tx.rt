@@ -2,7 +2,7 @@ ghost use Rattle.std.specs.Prelude.{◌≡◌, IfOk};
 
 use crate::{Inputs, Outputs};
 use std::alloc::Global;
-use wire::{Bytes, NoMemory};
+use wire::{Bytes, NoMemory, Twin};
 
 /// A transaction.
 #[derive(Debug, Drop)]
@@ -32,5 +32,11 @@ impl Tx {
             inputs: self.inputs.copy(alloc)?,
             outputs: self.outputs.copy(alloc)?,
         })
+    }
+}
+
+impl Twin for Tx {
+    fn copy(&self, alloc: Global) -> Result<Tx, NoMemory> {
+        Tx::copy(self, alloc)
     }
 }

@@ -15,5 +15,5 @@ pub fn block_id<H: IdHash>(alloc: Global, hash: &H, header: &Header) -> Result<I
     ensures { IfOk result (λ id. id ≡ header_id (H.hash_of hash.now) header.now) }
 {
     let body = encode_header(alloc, header)?;
-    entry_id(alloc, hash, b"blockheader", &body)
+    Ok(entry_id(hash, b"blockheader", &body))
 }

@@ -2,7 +2,8 @@
 use Rattle.std.proofs.Common.{◌≡◌, ◌<◌, List, [], ◌∷◌, ◌++◌, length, Some, sym, ◌∙◌, ap, subst, arith, append_assoc, append-nil, length-append}
 use Rattle.data_model.specs.declared.block.Block.{Block}
 use Rattle.vm_run.specs.Row.{Check}
-use Rattle.ledger_core.specs.Refusal.{Hash, ValidNext, tip_of}
+use Rattle.ledger_core.specs.Roots.{Hash}
+use Rattle.ledger_core.specs.Refusal.{ValidNext, tip_of}
 use Rattle.ledger_core.specs.Chain.{GoesOn, Chain}
 use Rattle.ledger_core.proofs.Tips.{tip_of_more}
 use Rattle.ledger_core.proofs.Valid.{height_of_next, height_of_initial}

@@ -1,131 +1,138 @@
 -- What blocks have that start a chain or extend one.
-use Rattle.std.proofs.Common.{◌≡◌, ℕ, ◌+◌, ◌<◌, List, [], length, Some, None, refl, sym, ◌∙◌, ap, subst}
-use Rattle.std.specs.Option.{option_or}
-use Rattle.std.proofs.lemmas.Bool.{eqb-true, eq-eqb, leb-false, lt-leb}
-use Rattle.std.specs.Cmp.Derive.{both_true}
-use Rattle.std.proofs.lemmas.Slice.Eq.{bytes_eq-Decides}
-use Rattle.data_model.specs.declared.header.Header.{Header}
+use Rattle.std.proofs.Common.{◌≡◌, ◌≢◌, ℕ, ◌+◌, ◌≤◌, ◌<◌, List, [], Some, None, refl, sym, ◌∙◌, ap, inl, inr, arith}
+use Rattle.std.specs.Prelude.{◌⊎◌}
+use Rattle.std.proofs.lemmas.Bool.{cases_lt}
+use Rattle.wire.specs.Tables.{HoldsNot, Tells, First, first_of_later, none_of_parts}
 use Rattle.data_model.specs.declared.block.Block.{Block}
 use Rattle.entry_ids.specs.Entry.{header_id}
 use Rattle.vm_run.specs.declared.verdict.Verdict.{Verdict}
 use Rattle.vm_run.specs.declared.verdict.Verdict.TheVariants.{Succeeded, Failed}
 use Rattle.vm_run.specs.Row.{Check}
-use Rattle.ledger_core.specs.Refusal.{Hash, start_fault, before_run_of, from_run_of, HasVerdictAfter, ValidNext, tip_of}
+use Rattle.ledger_core.specs.declared.refusal.BlockRefusal.{BlockRefusal}
+use Rattle.ledger_core.specs.declared.refusal.BlockRefusal.TheVariants.{B7}
+use Rattle.ledger_core.specs.declared.refusal.StartFault.TheVariants.{NotEmpty, RootsNotEmpty}
+use Rattle.ledger_core.specs.Roots.{Hash, root_of_none, tx_root}
+use Rattle.ledger_core.specs.Start.{start_lines, StartRefusal}
+use Rattle.ledger_core.specs.Refusal.{header_lines, state_lines, ProgramFails, HasVerdictAfter, ValidNext, context_after, run_limit, tip_of}
 use Rattle.ledger_core.specs.Valid.{IsInitial, Extends}
-use Rattle.ledger_core.proofs.Lines.{passed, passes, failed, fails, none_both, both_of, empty_of}
+use Rattle.ledger_core.proofs.Lines.{◌&◌, bytes_decided, nat_decided, nil_decided, same, no_difference}
+use Rattle.ledger_core.proofs.Refusals.{SomeVerdict, OneVerdict, not_failed}
+
+-- ---- two things that may differ, in one line
+
+module _ {R X Y : Type 0} (a b : X) (c d : Y) (values : R) where
+  abbrev Either : R → Type 0
+  Either = Tells ((a ≢ b) ⊎ (c ≢ d)) values
+
+  first_same : (a ≡ b) ⊎ (a ≢ b) → HoldsNot Either → a ≡ b
+  first_same (inl e) h = e
+  first_same (inr n) h = absurd (h values (inl n, refl))
+
+  second_same : (c ≡ d) ⊎ (c ≢ d) → HoldsNot Either → c ≡ d
+  second_same (inl e) h = e
+  second_same (inr n) h = absurd (h values (inr n, refl))
+
+  neither : a ≡ b → c ≡ d → HoldsNot Either
+  neither e f = λ told h. differ e f h.0
+    where
+      differ : a ≡ b → c ≡ d → (a ≢ b) ⊎ (c ≢ d) → ⊥
+      differ e f (inl n) = n e
+      differ e f (inr n) = n f
 
 -- ---- the initial block
 
-pub initial_from : (hash : Hash) (block : Block) → start_fault hash block ≡ None → IsInitial hash block
-unfolding start_fault
-initial_from hash block e =
-    let height = passed _ _ _ e in
-    let previous = passed _ _ _ height.1 in
-    let version = passed _ _ _ previous.1 in
-    let empty = passed _ _ _ version.1 in
-    let none = both_of _ _ empty.0 in
-    let roots = both_of _ _ (passed _ _ _ empty.1).0 in
-    record {
-      height = eqb-true _ _ height.0;
-      previous = (bytes_eq-Decides _ _).0 previous.0;
-      version = eqb-true _ _ version.0;
-      txs = empty_of block.txs none.0;
-      args = empty_of block.args none.1;
-      tx_root = (bytes_eq-Decides _ _).0 roots.0;
-      unspent_root = (bytes_eq-Decides _ _).0 roots.1;
-    }
+pub initial_from : (hash : Hash) (block : Block) → StartRefusal hash block None → IsInitial hash block
+initial_from hash block h = record {
+  height = same _ _ _ (nat_decided block.header.height 1) h.first.0;
+  previous = same _ _ _ (bytes_decided block.header.previous _) h.first.1.0;
+  version = same _ _ _ (nat_decided block.header.version 1) h.first.1.1.0;
+  txs = first_same block.txs [] block.args [] NotEmpty (nil_decided block.txs) h.first.1.1.1.0;
+  args = second_same block.txs [] block.args [] NotEmpty (nil_decided block.args) h.first.1.1.1.0;
+  tx_root = first_same block.header.tx_root (root_of_none hash) block.header.unspent_root (root_of_none hash) RootsNotEmpty (bytes_decided _ _) h.first.1.1.1.1.0;
+  unspent_root = second_same block.header.tx_root (root_of_none hash) block.header.unspent_root (root_of_none hash) RootsNotEmpty (bytes_decided _ _) h.first.1.1.1.1.0;
+}
 
-pub initial_to : (hash : Hash) (block : Block) → IsInitial hash block → start_fault hash block ≡ None
-unfolding start_fault
-initial_to hash block i =
-    passes _ _ _ (eq-eqb _ _ i.height)
-    ∙ passes _ _ _ ((bytes_eq-Decides _ _).1 i.previous)
-    ∙ passes _ _ _ (eq-eqb _ _ i.version)
-    ∙ passes _ _ _ (both_true (eq-eqb _ _ (ap length i.txs)) (eq-eqb _ _ (ap length i.args)))
-    ∙ passes _ _ _ (both_true ((bytes_eq-Decides _ _).1 i.tx_root) ((bytes_eq-Decides _ _).1 i.unspent_root))
+initial_first : (hash : Hash) (block : Block) → IsInitial hash block → First (start_lines (root_of_none hash) block) None
+initial_first hash block i =
+    no_difference _ _ _ i.height
+    & no_difference _ _ _ i.previous
+    & no_difference _ _ _ i.version
+    & neither block.txs [] block.args [] NotEmpty i.txs i.args
+    & neither block.header.tx_root (root_of_none hash) block.header.unspent_root (root_of_none hash) RootsNotEmpty i.tx_root i.unspent_root
+    & tt
+
+pub initial_to : (hash : Hash) (block : Block) → IsInitial hash block → StartRefusal hash block None
+initial_to hash block i = record { first = initial_first hash block i }
 
 -- ---- the block after
 
--- what is tested before the run
-record IsReady (hash : Hash) (tip header : Header) : Type 0 where
-  previous : header.previous ≡ header_id hash tip
-  height : header.height ≡ tip.height + 1
-  time : tip.time < header.time
-  version : header.version ≡ 1
-  tx_root : header.tx_root ≡ hash []
+later : {t u : ℕ} {values : BlockRefusal} → HoldsNot (Tells (t ≤ u) values) → u < t
+later {t} {u} {values} h = elim (cases_lt u t) [
+  | inl less ↦ less
+  | inr le ↦ absurd (h values (le, refl))
+]
 
-ready_from : (hash : Hash) (tip header : Header) → before_run_of hash tip header ≡ None → IsReady hash tip header
-unfolding before_run_of
-ready_from hash tip header e =
-    let previous = passed _ _ _ e in
-    let height = passed _ _ _ previous.1 in
-    let time = failed _ _ _ height.1 in
-    let version = passed _ _ _ time.1 in
-    let tx_root = passed _ _ _ version.1 in
-    record {
-      previous = (bytes_eq-Decides _ _).0 previous.0;
-      height = eqb-true _ _ height.0;
-      time = leb-false _ _ time.0;
-      version = eqb-true _ _ version.0;
-      tx_root = (bytes_eq-Decides _ _).0 tx_root.0;
-    }
+module _ (hash : Hash) (check : Check) where
+  abbrev Succeeds : Block → Block → Type 0
+  Succeeds tip block = (left : ℕ) × HasVerdictAfter hash check tip.header block.header block.args (Succeeded left)
 
-ready_to : (hash : Hash) (tip header : Header) → IsReady hash tip header → before_run_of hash tip header ≡ None
-unfolding before_run_of
-ready_to hash tip header i =
-    passes _ _ _ ((bytes_eq-Decides _ _).1 i.previous)
-    ∙ passes _ _ _ (eq-eqb _ _ i.height)
-    ∙ fails _ _ _ (lt-leb _ _ i.time)
-    ∙ passes _ _ _ (eq-eqb _ _ i.version)
-    ∙ passes _ _ _ ((bytes_eq-Decides _ _).1 i.tx_root)
+  succeeds : (tip block : Block) → HoldsNot (ProgramFails hash check tip.header block) → (v : Verdict) → HasVerdictAfter hash check tip.header block.header block.args v → Succeeds tip block
+  succeeds tip block h (Succeeded left) has = (left, has)
+  succeeds tip block h (Failed kind at) has = absurd (h (B7 kind at) (kind, at, has, refl))
 
-run_from : (hash : Hash) (header : Header) (verdict : Verdict) → from_run_of hash header verdict ≡ None → ((left : ℕ) × (verdict ≡ Succeeded left)) × (header.unspent_root ≡ hash [])
-unfolding from_run_of
-run_from hash header (Succeeded left) e = ((left, refl), (bytes_eq-Decides _ _).0 (passed _ _ _ e).0)
-run_from hash header (Failed kind at) e = cc
+  abbrev parts_of : (blocks : List Block) (block : Block) (v : ValidNext hash check blocks block) → First (header_lines (header_id hash v.tip.header) (tx_root hash block) v.tip.header block.header) None
+      × First (state_lines hash check blocks v.tip.header block) None
+  parts_of blocks block v = none_of_parts (header_lines (header_id hash v.tip.header) (tx_root hash block) v.tip.header block.header) (state_lines hash check blocks v.tip.header block) v.first
 
-run_to : (hash : Hash) (header : Header) (left : ℕ) → header.unspent_root ≡ hash [] → from_run_of hash header (Succeeded left) ≡ None
-unfolding from_run_of
-run_to hash header left e = passes _ _ _ ((bytes_eq-Decides _ _).1 e)
+  pub next_from : SomeVerdict → (blocks : List Block) (block : Block) → ValidNext hash check blocks block → (tip : Block) × (tip_of blocks ≡ Some tip) × Extends hash check blocks tip block
+  next_from some blocks block v =
+      let header = (parts_of blocks block v).0 in
+      let state = (parts_of blocks block v).1 in
+      let verdict = some (context_after hash v.tip.header block.header) check v.tip.header.next_program block.args run_limit in (
+        v.tip,
+        v.is_tip,
+        record {
+          previous = same _ _ _ (bytes_decided block.header.previous _) header.0;
+          height = same _ _ _ (nat_decided block.header.height _) header.1.0;
+          time = later header.1.1.0;
+          version = same _ _ _ (nat_decided block.header.version 1) header.1.1.1.0;
+          is_tx_root = same _ _ _ (bytes_decided block.header.tx_root _) header.1.1.1.1.1.0;
+          succeeds = succeeds v.tip block state.0 verdict.0 verdict.1;
+          is_unspent_root = same _ _ _ (bytes_decided block.header.unspent_root _) state.1.1.0;
+        },
+      )
 
-pub next_from : (hash : Hash) (check : Check) (blocks : List Block) (block : Block) → ValidNext hash check blocks block → (tip : Block) × (tip_of blocks ≡ Some tip) × Extends hash check tip block
-next_from hash check blocks block v =
-    let lines = none_both _ _ v.first in
-    let ready = ready_from hash v.tip.header block.header lines.0 in
-    let run = run_from hash block.header v.verdict lines.1 in (
-      v.tip,
-      v.is_tip,
+  pub next_to : OneVerdict → (blocks : List Block) (block : Block) → ((tip : Block) × (tip_of blocks ≡ Some tip) × Extends hash check blocks tip block) → ValidNext hash check blocks block
+  next_to one blocks block h =
+      let x = h.2 in
+      let none : HoldsNot {R = BlockRefusal} (λ told. ⊥) = λ told f. f in
+      let by_header : First (header_lines (header_id hash h.0.header) (tx_root hash block) h.0.header block.header) None =
+      no_difference _ _ _ x.previous
+      & no_difference _ _ _ x.height
+      & (λ told t. absurd (omega (arith, t.0, x.time)))
+      & no_difference _ _ _ x.version
+      & none
+      & no_difference _ _ _ x.is_tx_root
+      & tt in
+      let by_state : First (state_lines hash check blocks h.0.header block) None =
+      not_failed one hash check h.0.header block x.succeeds.0 x.succeeds.1
+      & none
+      & no_difference _ _ _ x.is_unspent_root
+      & tt in
       record {
-        previous = ready.previous;
-        height = ready.height;
-        time = ready.time;
-        version = ready.version;
-        tx_root = ready.tx_root;
-        succeeds = (run.0.0, subst (HasVerdictAfter hash check v.tip.header block) run.0.1 v.has_verdict);
-        unspent_root = run.1;
-      },
-    )
-
-pub next_to : (hash : Hash) (check : Check) (blocks : List Block) (block : Block) → ((tip : Block) × (tip_of blocks ≡ Some tip) × Extends hash check tip block) → ValidNext hash check blocks block
-next_to hash check blocks block h =
-    let x = h.2 in
-    let ready : IsReady hash h.0.header block.header = record { previous = x.previous; height = x.height; time = x.time; version = x.version; tx_root = x.tx_root } in
-    record {
-      tip = h.0;
-      is_tip = h.1;
-      verdict = Succeeded x.succeeds.0;
-      has_verdict = x.succeeds.1;
-      first = sym (ap (λ line. option_or line (from_run_of hash block.header (Succeeded x.succeeds.0))) (ready_to hash h.0.header block.header ready) ∙ run_to hash block.header x.succeeds.0 x.unspent_root);
-    }
+        tip = h.0;
+        is_tip = h.1;
+        first = first_of_later (header_lines (header_id hash h.0.header) (tx_root hash block) h.0.header block.header) (state_lines hash check blocks h.0.header block) None by_header by_state;
+      }
 
 -- ---- heights
 
 pub height_of_next : (hash : Hash) (check : Check) (blocks : List Block) (block tip : Block) → ValidNext hash check blocks block → tip_of blocks ≡ Some tip → block.header.height ≡ tip.header.height + 1
 height_of_next hash check blocks block tip v e =
-    let next = next_from hash check blocks block v in
-    let both : Some next.0 ≡ Some tip = sym next.1 ∙ e in
-    let tips : next.0 ≡ tip = cc both in
-    next.2.height ∙ ap (λ (t : Block). t.header.height + 1) tips
+    let header = (parts_of hash check blocks block v).0 in
+    let both : Some v.tip ≡ Some tip = sym v.is_tip ∙ e in
+    let tips : v.tip ≡ tip = cc both in
+    same _ _ _ (nat_decided block.header.height _) header.1.0 ∙ ap (λ (t : Block). t.header.height + 1) tips
 
-pub height_of_initial : (hash : Hash) (block : Block) → start_fault hash block ≡ None → block.header.height ≡ 1
-height_of_initial hash block e = (initial_from hash block e).height
+pub height_of_initial : (hash : Hash) (block : Block) → StartRefusal hash block None → block.header.height ≡ 1
+height_of_initial hash block h = (initial_from hash block h).height

@@ -1,11 +1,14 @@
 -- Chains, and what a list of offers makes of one.
 use Rattle.std.specs.Prelude.{◌≡◌, List, [], ◌∷◌, ◌++◌, Option, Some, None}
+use Rattle.std.specs.List.{AllByRecursion}
 use Rattle.data_model.specs.declared.block.Block.{Block}
 use Rattle.entry_ids.specs.Entry.{header_id}
 use Rattle.vm_run.specs.Row.{Check}
 use Rattle.ledger_core.specs.declared.refusal.BlockRefusal.{BlockRefusal}
-use Rattle.ledger_core.specs.Held.{Held}
-use Rattle.ledger_core.specs.Refusal.{Hash, start_fault, Refusal, ValidNext, tip_of}
+use Rattle.ledger_core.specs.Held.{Held, IsSpellable}
+use Rattle.ledger_core.specs.Roots.{Hash, root_of_none}
+use Rattle.ledger_core.specs.Start.{StartRefusal}
+use Rattle.ledger_core.specs.Refusal.{Refusal, ValidNext, tip_of}
 
 -- each of the later blocks extends those before it
 abbrev pub GoesOn : Hash → Check → List Block → List Block → Type 0
@@ -16,7 +19,7 @@ GoesOn hash check before (block ∷ later) =
 -- the first block starts a chain, and each later one extends those before it
 abbrev pub Chain : Hash → Check → List Block → Type 0
 Chain hash check [] = ⊥
-Chain hash check (initial ∷ later) = (start_fault hash initial ≡ None) × GoesOn hash check (initial ∷ []) later
+Chain hash check (initial ∷ later) = StartRefusal hash initial None × GoesOn hash check (initial ∷ []) later
 
 -- ---- offers
 
@@ -37,8 +40,10 @@ Accepted hash check blocks (offer ∷ offers) final (verdict ∷ verdicts) =
 
 -- ---- ledgers
 
--- A ledger stands for a hash and a check of signatures: its blocks are a chain under them, and the id that it keeps is
--- that of the last one.
+-- A ledger stands for a hash and a check of signatures: its blocks are a chain under them, each within the limits of
+-- spelling, and what it keeps is the id of the last one and the root of no ids.
 pub record StandsFor (hash : Hash) (check : Check) (ledger : Held) : Type 0 where
   pub chain : Chain hash check ledger.blocks
+  pub within : AllByRecursion IsSpellable ledger.blocks
   pub tip_id : (tip : Block) → tip_of ledger.blocks ≡ Some tip → ledger.tip_id ≡ header_id hash tip.header
+  pub empty_root : ledger.empty_root ≡ root_of_none hash

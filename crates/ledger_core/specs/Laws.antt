@@ -3,9 +3,17 @@ use Rattle.std.specs.Prelude.{◌≡◌, ◌<◌, ◌↔◌, List, [], ◌∷◌
 use Rattle.data_model.specs.declared.block.Block.{Block}
 use Rattle.vm_run.specs.Row.{Check}
 use Rattle.ledger_core.specs.declared.refusal.BlockRefusal.{BlockRefusal}
-use Rattle.ledger_core.specs.Refusal.{Hash, start_fault, Refusal, ValidNext, tip_of}
+use Rattle.wire.specs.Tables.{OneAnswer}
+use Rattle.ledger_core.specs.Roots.{Hash, root_of_none}
+use Rattle.ledger_core.specs.Start.{start_lines, StartRefusal}
+use Rattle.ledger_core.specs.Refusal.{block_lines, Refusal, ValidNext, tip_of}
 use Rattle.ledger_core.specs.Valid.{IsInitial, Extends}
 use Rattle.ledger_core.specs.Chain.{Chain, Accepted, after_offer}
+
+-- of each table there is one answer
+pub record TableLaws (hash : Hash) (check : Check) : Type 0 where
+  pub start : (block : Block) → OneAnswer (start_lines (root_of_none hash) block)
+  pub next : (blocks : List Block) (tip block : Block) → OneAnswer (block_lines hash check blocks tip.header block)
 
 -- a block that is offered after some blocks has a refusal or none, and no two
 pub record RefusalLaws (hash : Hash) (check : Check) : Type 0 where
@@ -21,11 +29,12 @@ pub record RefusalLaws (hash : Hash) (check : Check) : Type 0 where
 
 pub record ValidLaws (hash : Hash) (check : Check) : Type 0 where
   -- a block without a fault is an initial block
-  pub initial : (block : Block) → (start_fault hash block ≡ None) ↔ IsInitial hash block
+  pub initial : (block : Block) → StartRefusal hash block None ↔ IsInitial hash block
   -- a block without a refusal extends the last block
   pub next :
       (blocks : List Block) (block : Block)
-      → ValidNext hash check blocks block ↔ ((tip : Block) × (tip_of blocks ≡ Some tip) × Extends hash check tip block)
+      → ValidNext hash check blocks block
+      ↔ ((tip : Block) × (tip_of blocks ≡ Some tip) × Extends hash check blocks tip block)
 
 pub record ChainLaws (hash : Hash) (check : Check) : Type 0 where
   -- a chain has an initial block

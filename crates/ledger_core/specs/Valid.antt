@@ -1,28 +1,28 @@
 -- What a block has that starts a chain, and what one has that extends a chain.
-use Rattle.std.specs.Prelude.{◌≡◌, ℕ, ◌+◌, ◌<◌, [], replicate}
+use Rattle.std.specs.Prelude.{◌≡◌, ℕ, ◌+◌, ◌<◌, List, [], replicate}
 use Rattle.data_model.specs.declared.block.Block.{Block}
 use Rattle.entry_ids.specs.Entry.{header_id}
 use Rattle.vm_run.specs.declared.verdict.Verdict.TheVariants.{Succeeded}
 use Rattle.vm_run.specs.Row.{Check}
-use Rattle.ledger_core.specs.Refusal.{Hash, HasVerdictAfter}
+use Rattle.ledger_core.specs.Roots.{Hash, root_of_none, tx_root, unspent_root}
+use Rattle.ledger_core.specs.Refusal.{HasVerdictAfter}
 
--- both roots are the hash of nothing, since there is no transaction and no output
 pub record IsInitial (hash : Hash) (block : Block) : Type 0 where
   pub height : block.header.height ≡ 1
   pub previous : block.header.previous ≡ replicate 32 0
   pub version : block.header.version ≡ 1
   pub txs : block.txs ≡ []
   pub args : block.args ≡ []
-  pub tx_root : block.header.tx_root ≡ hash []
-  pub unspent_root : block.header.unspent_root ≡ hash []
+  pub tx_root : block.header.tx_root ≡ root_of_none hash
+  pub unspent_root : block.header.unspent_root ≡ root_of_none hash
 
--- a block after this tip
-pub record Extends (hash : Hash) (check : Check) (tip block : Block) : Type 0 where
+-- a block after these, the last of which is this tip
+pub record Extends (hash : Hash) (check : Check) (blocks : List Block) (tip block : Block) : Type 0 where
   pub previous : block.header.previous ≡ header_id hash tip.header
   pub height : block.header.height ≡ tip.header.height + 1
   pub time : tip.header.time < block.header.time
   pub version : block.header.version ≡ 1
-  pub tx_root : block.header.tx_root ≡ hash []
+  pub is_tx_root : block.header.tx_root ≡ tx_root hash block
   -- the tip's next program succeeds on the block's arguments, in the block's context
-  pub succeeds : (left : ℕ) × HasVerdictAfter hash check tip.header block (Succeeded left)
-  pub unspent_root : block.header.unspent_root ≡ hash []
+  pub succeeds : (left : ℕ) × HasVerdictAfter hash check tip.header block.header block.args (Succeeded left)
+  pub is_unspent_root : block.header.unspent_root ≡ unspent_root hash blocks block

@@ -1,9 +1,16 @@
 //! Laws of the definitions, each the contract of a function with nothing to do.
 ghost use Rattle.vm_run.specs.Row.{Check};
-ghost use Rattle.ledger_core.specs.Refusal.{Hash};
-ghost use Rattle.ledger_core.specs.Laws.{RefusalLaws, ValidLaws, ChainLaws, OfferLaws};
+ghost use Rattle.ledger_core.specs.Roots.{Hash};
+ghost use Rattle.ledger_core.specs.Laws.{TableLaws, RefusalLaws, ValidLaws, ChainLaws, OfferLaws};
 
 use vm_run::laws::one_verdict;
+
+/// Of the table of what may be wrong with an initial block there is one answer, and one of the table of refusals.
+pub fn one_line()
+    ensures { (hash : Hash) (check : Check) → TableLaws hash check }
+{
+    one_verdict();
+}
 
 /// A block that is offered after some blocks has one refusal, or none.
 pub fn one_refusal()
@@ -15,7 +22,9 @@ pub fn one_refusal()
 /// What the blocks have that start a chain, and those that extend one.
 pub fn valid_blocks()
     ensures { (hash : Hash) (check : Check) → ValidLaws hash check }
-{}
+{
+    one_verdict();
+}
 
 /// A chain grows by its valid next blocks, and in no other way.
 pub fn growing_chains()

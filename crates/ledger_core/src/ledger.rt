@@ -1,28 +1,36 @@
 ghost use Rattle.std.specs.Prelude.{◌≡◌, Some};
 ghost use Rattle.data_model.specs.declared.block.Block.{Block};
+ghost use Rattle.data_model.specs.Spelling.{IsString};
+ghost use Rattle.ledger_core.specs.Held.{IsSpellable};
 ghost use Rattle.ledger_core.specs.Refusal.{tip_of};
 
 use data_model::{Block, Blocks};
 use std::marker::Model;
 use wire::Id;
 
-/// A chain of blocks, from its initial block on. It is seen as its blocks and the id of the last of them, and stands
-/// for the hash and the check of signatures that it was made with.
+/// A chain of blocks, from its initial block on. It is seen as its blocks, the id of the last of them and the root of
+/// no ids, and stands for the hash and the check of signatures that it was made with.
 #[derive(Debug, Drop)]
 pub struct Ledger {
     pub(crate) blocks: Blocks,
     pub(crate) tip_id: Id,
+    pub(crate) empty_root: Id,
 }
 
 impl Model for Ledger {
     ghost use Rattle.std.specs.Prelude.{◌<◌, length};
-    ghost use Rattle.ledger_core.specs.Held.{Held};
+    ghost use Rattle.std.specs.List.{AllByRecursion};
+    ghost use Rattle.ledger_core.specs.Held.{Held, IsSpellable};
 
     ghost Value = { Held };
 
-    ghost view = { λ ledger. record { blocks = ledger.blocks; tip_id = ledger.tip_id } };
+    ghost view = { λ ledger. record {
+      blocks = ledger.blocks;
+      tip_id = ledger.tip_id;
+      empty_root = ledger.empty_root;
+    } };
 
-    ghost invariant = { λ ledger. 0 < length ledger.blocks };
+    ghost invariant = { λ ledger. (0 < length ledger.blocks) × AllByRecursion IsSpellable ledger.blocks };
 }
 
 /// The last block of a chain.
@@ -47,6 +55,7 @@ impl Ledger {
             × (result.version ≡ tip.header.version)
             × (result.next_program.now ≡ tip.header.next_program) }
         ensures id { result.id ≡ self.now.tip_id }
+        ensures program { IsString result.next_program.now }
     {
         let block = self.tip_block();
         Tip {
@@ -60,7 +69,8 @@ impl Ledger {
 
     // The last block.
     pub(crate) fn tip_block(&self) -> &Block
-        ensures { tip_of self.now.blocks ≡ Some result.now }
+        ensures tip { tip_of self.now.blocks ≡ Some result.now }
+        ensures within { IsSpellable result.now }
     {
         match self.blocks.as_slice().last() {
             Some(block) => block,

@@ -9,7 +9,7 @@ mod offer;
 mod refusal;
 mod start;
 
-pub use laws::{accepted_offers, growing_chains, one_refusal, valid_blocks};
+pub use laws::{accepted_offers, growing_chains, one_line, one_refusal, valid_blocks};
 pub use ledger::{Ledger, Tip};
 pub use offer::Accepted;
 pub use refusal::{BlockRefusal, OfferFault, StartFault};

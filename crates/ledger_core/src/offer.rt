@@ -2,7 +2,9 @@ ghost use Rattle.std.specs.Prelude.{◌≡◌, ◌<◌, ◌≤◌, ◌^◌, ◌+
 ghost use Rattle.entry_ids.specs.Entry.{header_id};
 ghost use Rattle.data_model.specs.Layout.{most_txs};
 ghost use Rattle.data_model.specs.Spelling.{IsHeader};
-ghost use Rattle.ledger_core.specs.Refusal.{Refuses, ValidNext, HasVerdictAfter, before_run_of, from_run_of};
+ghost use Rattle.wire.specs.Tables.{First};
+ghost use Rattle.ledger_core.specs.Roots.{Hash};
+ghost use Rattle.ledger_core.specs.Refusal.{Refuses, ValidNext, Checked, HasVerdictAfter, header_lines};
 ghost use Rattle.ledger_core.specs.Chain.{StandsFor};
 
 use crate::{BlockRefusal, Ledger, OfferFault};
@@ -10,9 +12,10 @@ use data_model::{Block, Header};
 use entry_ids::block_id;
 use keyed::{IdHash, SigCheck};
 use std::alloc::Global;
+use std::mem::replace;
 use vm_run::laws::one_verdict;
 use vm_run::{BlockContext, Context, NoMemory, Verdict, verify};
-use wire::Id;
+use wire::{Args, Bytes, Id};
 
 /// The run limit of the program that a block has to satisfy, its arguments included.
 const RUN_LIMIT: u64 = 10_000;
@@ -47,54 +50,53 @@ impl Ledger {
         ensures unchanged { OnErr result (self.new ≡ self.old) }
         ensures stands { StandsFor (H.hash_of hash.now) (C.good_of sigs.now) self.new }
     {
-        let id = self.checked(alloc, hash, sigs, &block)?;
         let height = block.header.height;
+        let (id, block) = self.checked(alloc, hash, sigs, block)?;
         self.blocks.push(block)?;
         self.tip_id = id;
         Ok(Accepted { height, id })
     }
 
-    // The id of a block that validly extends the chain. Its header is hashed once, and the program is run at most once.
+    // A block that validly extends the chain, and its id. Its header is hashed once, and the program is run at most
+    // once.
     fn checked<H: IdHash, C: SigCheck>(
         &self,
         alloc: Global,
         hash: &H,
         sigs: &C,
-        block: &Block,
-    ) -> Result<Id, OfferFault>
+        block: Block,
+    ) -> Result<(Id, Block), OfferFault>
         requires stands { StandsFor (H.hash_of hash.now) (C.good_of sigs.now) self.now }
-        requires header { IsHeader block.now.header }
+        requires header { IsHeader block.header }
         requires room { length self.now.blocks < 2 ^ 40 }
-        ensures valid { OnOk result (ValidNext (H.hash_of hash.now) (C.good_of sigs.now) self.now.blocks block.now) }
-        ensures id { IfOk result (λ id. id ≡ header_id (H.hash_of hash.now) block.now.header) }
-        ensures refused { IfErr result
-            (λ fault. Refuses (H.hash_of hash.now) (C.good_of sigs.now) self.now.blocks block.now fault) }
+        ensures { Checked (H.hash_of hash.now) (C.good_of sigs.now) self.now.blocks block result }
     {
         one_verdict();
         let tip = &self.tip_block().header;
-        if let Some(line) = before_run(hash, tip, &self.tip_id, &block.header) {
+        let empty = self.empty_root;
+        if let Some(line) = before_run(tip, &self.tip_id, &empty, &block.header) {
             return Err(OfferFault::Refused(line));
         }
-        let id = block_id(alloc, hash, &block.header)?;
-        let verdict = verdict_after(alloc, hash, sigs, tip, id, block)?;
-        match from_run(hash, &block.header, verdict) {
-            Some(line) => Err(OfferFault::Refused(line)),
-            None => Ok(id),
+        let Block { header, args, txs } = block;
+        let id = block_id(alloc, hash, &header)?;
+        let (verdict, header) = verdict_after(alloc, sigs, tip, id, header, &args)?;
+        if let Verdict::Failed { kind, at } = verdict {
+            return Err(OfferFault::Refused(BlockRefusal::B7 { kind, at }));
         }
+        if header.unspent_root != empty {
+            return Err(OfferFault::Refused(BlockRefusal::B9 {
+                computed: empty,
+                given: header.unspent_root,
+            }));
+        }
+        Ok((id, Block { header, args, txs }))
     }
 }
 
-// The first of the lines before the run that holds.
-#[tactic(auto, unfolding(crate::specs::Refusal::before_run_of))]
-fn before_run<H: IdHash>(
-    hash: &H,
-    tip: &Header,
-    tip_id: &Id,
-    header: &Header,
-) -> Option<BlockRefusal>
-    requires id { tip_id.now ≡ header_id (H.hash_of hash.now) tip.now }
+// The first of B1 to B6 that holds.
+fn before_run(tip: &Header, tip_id: &Id, computed: &Id, header: &Header) -> Option<BlockRefusal>
     requires room { tip.now.height < 2 ^ 63 }
-    ensures { result ≡ before_run_of (H.hash_of hash.now) tip.now header.now }
+    ensures { First (header_lines tip_id.now computed.now tip.now header.now) result }
 {
     if header.previous != *tip_id {
         return Some(BlockRefusal::B1 {
@@ -120,54 +122,43 @@ fn before_run<H: IdHash>(
             given: header.version,
         });
     }
-    let computed = hash.hash(b"");
-    if header.tx_root != computed {
+    if header.tx_root != *computed {
         return Some(BlockRefusal::B6 {
-            computed,
+            computed: *computed,
             given: header.tx_root,
         });
     }
     None
 }
 
-// The verdict on the tip's next program, with the arguments of a block of this id.
-fn verdict_after<H: IdHash, C: SigCheck>(
+// The verdict on the tip's next program, on the arguments of a block of this id and header, and the header again: its
+// program is lent to the context of the run.
+fn verdict_after<C: SigCheck>(
     alloc: Global,
-    hash: &H,
     sigs: &C,
     tip: &Header,
     id: Id,
-    block: &Block,
-) -> Result<Verdict, NoMemory>
-    requires id { id ≡ header_id (H.hash_of hash.now) block.now.header }
-    requires time { block.now.header.time < 2 ^ 63 }
-    ensures { IfOk result
-        (λ verdict. HasVerdictAfter (H.hash_of hash.now) (C.good_of sigs.now) tip.now block.now verdict) }
+    header: Header,
+    args: &Args,
+) -> Result<(Verdict, Header), NoMemory>
+    requires time { header.time < 2 ^ 63 }
+    ensures verdict { (hash : Hash)
+        → id ≡ header_id hash header
+        → IfOk result (λ x. HasVerdictAfter hash (C.good_of sigs.now) tip.now header args.now x.0) }
+    ensures same { IfOk result (λ x. x.1 ≡ header) }
 {
+    let mut header = header;
+    let next_program = replace(&mut header.next_program, Bytes::new(alloc));
     let context = Context::Block(BlockContext {
         block_id: id,
         program: tip.next_program.copy(alloc)?,
-        next_program: block.header.next_program.copy(alloc)?,
-        time: block.header.time,
+        next_program,
+        time: header.time,
     });
     let program = tip.next_program.as_slice();
-    verify(alloc, &context, sigs, program, &block.args, RUN_LIMIT)
-}
-
-// The first of the lines from the run on that holds.
-#[tactic(auto, unfolding(crate::specs::Refusal::from_run_of))]
-fn from_run<H: IdHash>(hash: &H, header: &Header, verdict: Verdict) -> Option<BlockRefusal>
-    ensures { result ≡ from_run_of (H.hash_of hash.now) header.now verdict }
-{
-    if let Verdict::Failed { kind, at } = verdict {
-        return Some(BlockRefusal::B7 { kind, at });
+    let verdict = verify(alloc, &context, sigs, program, args, RUN_LIMIT)?;
+    if let Context::Block(seen) = context {
+        header.next_program = seen.next_program;
     }
-    let computed = hash.hash(b"");
-    if header.unspent_root != computed {
-        return Some(BlockRefusal::B9 {
-            computed,
-            given: header.unspent_root,
-        });
-    }
-    None
+    Ok((verdict, header))
 }

@@ -1,8 +1,9 @@
-ghost use Rattle.std.specs.Prelude.{◌≡◌, [], ◌∷◌, IfOk, IfErr, Option, Some, None};
+ghost use Rattle.std.specs.Prelude.{◌≡◌, ◌≢◌, [], ◌∷◌, IfOk, IfErr, Option, Some, None};
 ghost use Rattle.data_model.specs.Spelling.{IsHeader};
 ghost use Rattle.entry_ids.specs.Entry.{header_id};
 ghost use Rattle.vm_run.specs.Row.{Check};
-ghost use Rattle.ledger_core.specs.Refusal.{start_fault, RefusesStart};
+ghost use Rattle.wire.specs.Tables.{First};
+ghost use Rattle.ledger_core.specs.Start.{start_lines, StartRefusal, RefusesStart};
 ghost use Rattle.ledger_core.specs.Chain.{StandsFor};
 
 use crate::{Ledger, StartFault};
@@ -10,12 +11,13 @@ use data_model::{Block, Blocks};
 use entry_ids::block_id;
 use keyed::IdHash;
 use std::alloc::Global;
+use wire::Id;
 
 impl Ledger {
     /// The ledger of an initial block alone. A refused block is dropped.
     pub fn start<H: IdHash>(alloc: Global, hash: &H, initial: Block) -> Result<Ledger, StartFault>
         requires { IsHeader initial.header }
-        ensures initial { IfOk result (λ _. start_fault (H.hash_of hash.now) initial ≡ None) }
+        ensures initial { IfOk result (λ _. StartRefusal (H.hash_of hash.now) initial None) }
         ensures blocks { IfOk result (λ ledger. ledger.blocks ≡ initial ∷ []) }
         ensures id { IfOk result (λ ledger. ledger.tip_id ≡ header_id (H.hash_of hash.now) initial.header) }
 
@@ -23,23 +25,27 @@ impl Ledger {
         ensures stands { IfOk result (λ ledger. (check : Check) → StandsFor (H.hash_of hash.now) check ledger) }
         ensures refused { IfErr result (λ fault. RefusesStart (H.hash_of hash.now) initial fault) }
     {
-        if let Some(fault) = fault_of(hash, &initial) {
+        let empty_root = hash.hash(b"");
+        if let Some(fault) = fault_of(&empty_root, &initial) {
             return Err(fault);
         }
         let tip_id = block_id(alloc, hash, &initial.header)?;
         let mut blocks = Blocks::new(alloc);
         blocks.push(initial)?;
-        Ok(Ledger { blocks, tip_id })
+        Ok(Ledger {
+            blocks,
+            tip_id,
+            empty_root,
+        })
     }
 }
 
 // The first of I1 to I5 that holds.
-#[tactic(auto, unfolding(crate::specs::Refusal::start_fault))]
-fn fault_of<H: IdHash>(hash: &H, block: &Block) -> Option<StartFault>
-    ensures { result ≡ start_fault (H.hash_of hash.now) block.now }
+fn fault_of(root: &Id, block: &Block) -> Option<StartFault>
+    ensures first { First (start_lines root.now block.now) result }
+    ensures refused { result ≢ Some StartFault.NoMemory }
 {
     let header = &block.header;
-    let empty = hash.hash(b"");
     if header.height != 1 {
         return Some(StartFault::HeightNotOne);
     }
@@ -52,7 +58,7 @@ fn fault_of<H: IdHash>(hash: &H, block: &Block) -> Option<StartFault>
     if !block.txs.is_empty() || !block.args.is_empty() {
         return Some(StartFault::NotEmpty);
     }
-    if header.tx_root != empty || header.unspent_root != empty {
+    if header.tx_root != *root || header.unspent_root != *root {
         return Some(StartFault::RootsNotEmpty);
     }
     None

@@ -1,7 +1,7 @@
 use crate::rows::bytes_of;
 use data_model::{
     Blocks, Control, Ids, Input, Inputs, Issue, Output, OutputBody, Outputs, Retire, Spend, Tx,
-    Txs, decode_block, encode_block,
+    Txs, decode_block, encode_block, frame, read_blocks,
 };
 use std::alloc::Global;
 use std::test::Fail;
@@ -20,6 +20,12 @@ fn blocks_again(rt: HostRuntime) -> Result<(), Fail> {
     let block = decode_block(alloc, &bytes)?.copy(alloc)?;
     assert_eq!(rt; block.args.len(), 2);
     assert_eq!(rt; encode_block(alloc, &block)?.as_slice(), bytes.as_slice());
+    let file = frame(alloc, &block)?;
+    assert_eq!(rt;
+        file.as_slice().split_first(),
+        Some((&108, bytes.as_slice()))
+    );
+    assert_eq!(rt; read_blocks(alloc, &file)?.len(), 1);
     let mut blocks = Blocks::new(alloc);
     blocks.push(block)?;
     let mut ids = Ids::new(alloc);

@@ -3,10 +3,7 @@
 ghost use Rattle.std.specs.Prelude.{◌≡◌};
 
 use std::alloc::Global;
-use wire::{
-    Bytes, Cursor, DataFault, Id, Listed, NoMemory, Record, layout_readings, put_frame, put_varint,
-    put_varstring, write_many,
-};
+use wire::{Bytes, Cursor, DataFault, Id, Listed, NoMemory, Record, Writer, layout_readings};
 
 /// An amount and a text.
 #[derive(Debug, Drop)]
@@ -33,9 +30,9 @@ impl Record for Note {
         Ok(Note { amount, text })
     }
 
-    fn write(&self, _alloc: Global, out: &mut Bytes) -> Result<(), NoMemory> {
-        put_varint(out, self.amount)?;
-        put_varstring(out, self.text.as_slice())
+    fn write(&self, out: &mut Writer) -> Result<(), NoMemory> {
+        out.number(self.amount)?;
+        out.text(self.text.as_slice())
     }
 
     fn readings() {
@@ -69,12 +66,12 @@ impl Record for Entry {
         }
     }
 
-    fn write(&self, alloc: Global, out: &mut Bytes) -> Result<(), NoMemory> {
+    fn write(&self, out: &mut Writer) -> Result<(), NoMemory> {
         match self {
-            Entry::Mark => out.push(0),
+            Entry::Mark => out.kind(0),
             Entry::Note(note) => {
-                out.push(1)?;
-                note.write(alloc, out)
+                out.kind(1)?;
+                note.write(out)
             }
         }
     }
@@ -113,8 +110,8 @@ impl Record for Page {
         layout_readings();
     }
 
-    fn write(&self, alloc: Global, out: &mut Bytes) -> Result<(), NoMemory> {
-        write_many(alloc, out, self.entries.as_slice())?;
-        put_frame(alloc, out, &self.last)
+    fn write(&self, out: &mut Writer) -> Result<(), NoMemory> {
+        out.many(self.entries.as_slice())?;
+        out.frame(&self.last)
     }
 }

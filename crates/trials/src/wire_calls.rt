@@ -2,8 +2,8 @@
 use crate::page::{Entry, Page};
 use std::test::Fail;
 use wire::{
-    Args, Bytes, DataFault, DataKind, WireFault, decode, encode, put_varint, take_varint,
-    take_varstring,
+    Args, Bytes, DataFault, DataKind, FramesFault, Listed, WireFault, decode, encode, put,
+    put_frame, put_varint, read_frames, take_varint, take_varstring,
 };
 
 #[test]
@@ -63,6 +63,10 @@ fn pages(rt: HostRuntime) -> Result<(), Fail> {
     let page: Page = decode(rt.alloc(), spelling)?;
     assert_eq!(rt; encode(rt.alloc(), &page)?.as_slice(), spelling);
     assert_eq!(rt; page.last.amount, 1);
+    let mut out = Bytes::from_slice(rt.alloc(), b"(")?;
+    put(rt.alloc(), &mut out, &page.last)?;
+    put_frame(rt.alloc(), &mut out, &page.last)?;
+    assert_eq!(rt; out.as_slice(), b"(\x01\x00\x02\x01\x00".as_slice());
     match page.entries.as_slice() {
         [Entry::Mark, Entry::Note(note)] => assert_eq!(rt; note.amount, 300),
         _ => panic!(rt; "other entries"),
@@ -90,6 +94,35 @@ fn pages(rt: HostRuntime) -> Result<(), Fail> {
     for (bytes, at, kind) in faults {
         let read: Result<Page, DataFault> = decode(rt.alloc(), bytes);
         assert_eq!(rt; read.err(), Some(DataFault::At { at, kind }), "{bytes:?}");
+    }
+    Ok(())
+}
+
+// Two entries behind their lengths, and what is wrong with others.
+#[test]
+fn files_of_entries(rt: HostRuntime) -> Result<(), Fail> {
+    let file = b"\x01\x00\x05\x01\x07\x02ab".as_slice();
+    let entries: Listed<Entry> = read_frames(rt.alloc(), file, 8)?;
+    match entries.as_slice() {
+        [Entry::Mark, Entry::Note(note)] => assert_eq!(rt; note.amount, 7),
+        _ => panic!(rt; "other entries"),
+    }
+    let none: Listed<Entry> = read_frames(rt.alloc(), b"", 8)?;
+    assert!(rt; none.is_empty());
+    let faults: [(&[u8], u64, u64, DataKind); 5] = [
+        (b"\x01\x00\x05\x01\x07\x02a", 1, 2, DataKind::Short),
+        (b"\x01\x00\x09", 1, 2, DataKind::TooBig),
+        (b"\x01\x02", 0, 1, DataKind::Kind),
+        (b"\x01\x00\x01\x00\x02\x00\x00", 2, 6, DataKind::Trailing),
+        (b"\x01\x00\x81\x00", 1, 2, DataKind::NotShortest),
+    ];
+    for (bytes, index, at, kind) in faults {
+        let read: Result<Listed<Entry>, FramesFault> = read_frames(rt.alloc(), bytes, 8);
+        assert_eq!(rt;
+            read.err(),
+            Some(FramesFault::At { index, at, kind }),
+            "{bytes:?}"
+        );
     }
     Ok(())
 }

@@ -11,3 +11,6 @@ pub mod LayoutReaders
 pub mod SpellingLaws
 pub mod Loop
 pub mod FaultPlaces
+pub mod Turning
+pub mod WholeFiles
+pub mod Torn

@@ -6,8 +6,8 @@ use Rattle.wire.specs.declared.fault.DataKind.{DataKind}
 use Rattle.wire.specs.declared.fault.DataKind.TheVariants.{Trailing}
 use Rattle.wire.specs.Spelling.{AreBytes, varint, varstring}
 use Rattle.wire.specs.Places.{Place, Fault, Reading, ◌>>=◌, fault_here, ended, whole_at, text_at, inside, frame_at}
-use Rattle.wire.specs.Layout.{IsNumber}
-use Rattle.wire.specs.FirstFault.{Faults, FaultHere, Either, Left, WholeFault, InFrame, TextFault}
+use Rattle.wire.specs.Layout.{IsNumber, FrameFits, frame_spelling}
+use Rattle.wire.specs.FirstFault.{Faults, FaultHere, Left, WholeFault, InFrame, TextFault, FrameFault}
 use Rattle.wire.specs.Readers.{Passes, Answers, fault_at, IsReader, WholeAnswers, IsWholeReader}
 use Rattle.wire.proofs.Readers.{Passes-behind, behind, same_fault}
 use Rattle.wire.proofs.FieldReaders.{text_reader}
@@ -73,14 +73,14 @@ module _ {X : Type 0} (fits : X → Type 0) (spell : X → List ℕ) (F : Faults
   -- ---- behind a length
 
   module _ (most : ℕ) where
-    abbrev FrameFits : X → Type 0
-    FrameFits x = fits x × IsNumber 0 most (length (spell x))
+    abbrev Framed : X → Type 0
+    Framed = FrameFits most fits spell
 
-    abbrev frame_spelling : X → List ℕ
-    frame_spelling x = varstring (spell x)
+    abbrev framed_spelling : X → List ℕ
+    framed_spelling = frame_spelling spell
 
-    abbrev FrameFault : Faults
-    FrameFault = Either (FaultHere (TextFault most)) (InFrame most (WholeFault fits spell F))
+    abbrev FramedFault : Faults
+    FramedFault = FrameFault most fits spell F
 
     -- the bytes of a string stand behind their length
     prefix : (text : List ℕ) → length (varstring text) ≡ length (varint (length text)) + length text
@@ -95,7 +95,7 @@ module _ {X : Type 0} (fits : X → Type 0) (spell : X → List ℕ) (F : Faults
     held_bytes p text m b = AreBytes-front text.0 text.1.rest (AreBytes-rest (varint (length text.0)) (text.0 ++ text.1.rest) (subst AreBytes (m.bytes ∙ append_assoc (varint (length text.0)) text.0 text.1.rest) b))
 
     held_sound : (p : Place) (text : List ℕ × Place) → IsNumber 0 most (length text.0) → Passes p (varstring text.0) text.1 → (r : Result X Fault) → Whole (inside text) r
-        → Answers FrameFits frame_spelling FrameFault p (r >>= λ x. Ok (x, text.1))
+        → Answers Framed framed_spelling FramedFault p (r >>= λ x. Ok (x, text.1))
     held_sound p text n m (Ok x) h =
         ((h.0, subst (λ (bytes : List ℕ). IsNumber 0 most (length bytes)) h.1 n), subst (λ (bytes : List ℕ). Passes p (varstring bytes) text.1) h.1 m)
     held_sound p text n m (Err f) h = record {
@@ -105,12 +105,12 @@ module _ {X : Type 0} (fits : X → Type 0) (spell : X → List ℕ) (F : Faults
     }
 
     frame_sound : (p : Place) → AreBytes p.rest → (r : Reading (List ℕ)) → Answers (λ text. IsNumber 0 most (length text)) varstring (FaultHere (TextFault most)) p r
-        → Answers FrameFits frame_spelling FrameFault p (r >>= λ text. whole_at read (inside text) >>= λ x. Ok (x, text.1))
+        → Answers Framed framed_spelling FramedFault p (r >>= λ text. whole_at read (inside text) >>= λ x. Ok (x, text.1))
     frame_sound p b (Ok text) h =
         held_sound p text h.0 h.1 (whole_at read (inside text)) (whole_reader.sound (inside text) (held_bytes p text h.1 b))
     frame_sound p b (Err f) h = record { off = h.off; at = h.at; first = inl h.first }
 
-    frame_again : (p : Place) (x : X) (q : Place) → FrameFits x → Passes p (frame_spelling x) q → frame_at most read p ≡ Ok (x, q)
+    frame_again : (p : Place) (x : X) (q : Place) → Framed x → Passes p (framed_spelling x) q → frame_at most read p ≡ Ok (x, q)
     frame_again p x q h m =
         let text : text_at most p ≡ Ok (spell x, q) = (text_reader most).again p (spell x) q h.1 m in
         let held : whole_at read (inside (spell x, q)) ≡ Ok x = whole_again (inside (spell x, q)) x h.0 refl in
@@ -125,11 +125,11 @@ module _ {X : Type 0} (fits : X → Type 0) (spell : X → List ℕ) (F : Faults
         let held : whole_at read from ≡ Err (fault_at from h.place kind) = whole_told from h.place kind (held_bytes p (h.held, q) m b) h.fault in
         rw (text, held) (same_fault (fault_at from h.place kind) (fault_at p off kind) (omega (arith, h.further, inside_at p (h.held, q) m)) refl)
 
-    frame_told : (p : Place) (off : ℕ) (kind : DataKind) → AreBytes p.rest → FrameFault p.rest off kind → frame_at most read p ≡ Err (fault_at p off kind)
+    frame_told : (p : Place) (off : ℕ) (kind : DataKind) → AreBytes p.rest → FramedFault p.rest off kind → frame_at most read p ≡ Err (fault_at p off kind)
     frame_told p off kind b (inl h) = rw ((text_reader most).told p off kind b h) refl
     frame_told p off kind b (inr h) = inside_told p off kind b h
 
-    pub frame_reader : IsReader FrameFits frame_spelling FrameFault (frame_at most read)
+    pub frame_reader : IsReader Framed framed_spelling FramedFault (frame_at most read)
     frame_reader = record {
       sound = λ p b. frame_sound p b (text_at most p) ((text_reader most).sound p b);
       again = frame_again;

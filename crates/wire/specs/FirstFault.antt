@@ -132,6 +132,10 @@ pub record InFrame (most : ℕ) (F : Faults) (bytes : List ℕ) (at : ℕ) (kind
   pub fault : F held place kind
   pub further : at ≡ length (varint (length held)) + place
 
+-- the fault of a record behind its length: that of the length, or of the bytes behind it
+abbrev pub FrameFault : {X : Type 0} → ℕ → (X → Type 0) → (X → List ℕ) → Faults → Faults
+FrameFault most fits spell F = Either (FaultHere (TextFault most)) (InFrame most (WholeFault fits spell F))
+
 -- ---- layouts
 
 abbrev pub FirstFault : Layout → Faults
@@ -147,9 +151,7 @@ FirstFault (Many most room each) =
     (BehindValue (IsNumber 0 most) varint (λ n. ItemsFault (Fits each) (spelling each) (FirstFault each) room n 0))
 FirstFault (Kinds count kind) =
     Either (FaultHere (KindFault count)) (BehindValue (λ k. k < count) (λ k. k ∷ []) (λ k. FirstFault (kind k)))
-FirstFault (Frame most held) =
-    Either (FaultHere (TextFault most))
-    (InFrame most (WholeFault (Fits held) (spelling held) (FirstFault held)))
+FirstFault (Frame most held) = FrameFault most (Fits held) (spelling held) (FirstFault held)
 
 -- the first fault of bytes that should all be one record
 abbrev pub FirstFaultOfAll : Layout → Faults

@@ -37,6 +37,10 @@ or_else first others (suc k) = others k
 abbrev pub only : Layout → ℕ → Layout
 only layout k = layout
 
+-- a record behind its length
+abbrev pub frame_spelling : {X : Type 0} → (X → List ℕ) → X → List ℕ
+frame_spelling spell x = varstring (spell x)
+
 abbrev pub Value : Layout → Type 0
 Value Nothing = Unit {0}
 Value (Number most) = ℕ
@@ -59,7 +63,7 @@ spelling (Text most) text = varstring text
 spelling (Then first second) v = spelling first v.0 ++ spelling second v.1
 spelling (Many most room each) vs = varint (length vs) ++ flat_map (spelling each) vs
 spelling (Kinds count kind) v = v.0 ∷ spelling (kind v.0) v.1
-spelling (Frame most held) v = varstring (spelling held v)
+spelling (Frame most held) v = frame_spelling (spelling held) v
 
 -- ---- within the limits
 
@@ -79,6 +83,10 @@ pub record AreItems {X : Type 0} (fits : X → Type 0) (spell : X → List ℕ) 
   pub each : AllByRecursion fits xs
   pub within : IsWithin room (used + length (flat_map spell xs))
 
+-- a record within its limits, which takes at most so many bytes
+abbrev pub FrameFits : {X : Type 0} → ℕ → (X → Type 0) → (X → List ℕ) → X → Type 0
+FrameFits most fits spell x = fits x × IsNumber 0 most (length (spell x))
+
 abbrev pub Fits : (layout : Layout) → Value layout → Type 0
 Fits Nothing v = Unit {0}
 Fits (Number most) n = IsNumber 0 most n
@@ -88,7 +96,7 @@ Fits (Text most) text = IsNumber 0 most (length text)
 Fits (Then first second) v = Fits first v.0 × Fits second v.1
 Fits (Many most room each) vs = IsNumber 0 most (length vs) × AreItems (Fits each) (spelling each) room 0 vs
 Fits (Kinds count kind) v = (v.0 < count) × Fits (kind v.0) v.1
-Fits (Frame most held) v = Fits held v × IsNumber 0 most (length (spelling held v))
+Fits (Frame most held) v = FrameFits most (Fits held) (spelling held) v
 
 -- ---- reading
 

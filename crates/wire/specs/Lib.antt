@@ -7,3 +7,5 @@ pub mod FirstFault
 pub mod Readers
 pub mod LayoutLaws
 pub mod Records
+pub mod Files
+pub mod Tables

@@ -1,6 +1,8 @@
 -- What is said of a reader, once for all readers: it reads the values that fit, and what it tells is the first fault.
 use Rattle.std.specs.Prelude.{◌≡◌, ℕ, ◌+◌, List, ◌++◌, length, Result, Ok, Err}
 use Rattle.wire.specs.declared.fault.DataKind.{DataKind}
+use Rattle.wire.specs.declared.fault.DataFault.{DataFault}
+use Rattle.wire.specs.declared.fault.DataFault.TheVariants.{At, NoMemory}
 use Rattle.wire.specs.Spelling.{AreBytes}
 use Rattle.wire.specs.Places.{Place, Fault, Reading}
 use Rattle.wire.specs.FirstFault.{Faults, WholeFault}
@@ -20,6 +22,13 @@ pub record FaultAt (F : Faults) (from : Place) (fault : Fault) : Type 0 where
 abbrev pub Answers : {X : Type 0} → (X → Type 0) → (X → List ℕ) → Faults → Place → Reading X → Type 0
 Answers fits spell F from (Ok x) = fits x.0 × Passes from (spell x.0) x.1
 Answers fits spell F from (Err fault) = FaultAt F from fault
+
+-- the same of a function of the code, which goes to another place. Want of memory is free.
+abbrev pub Answered : {X : Type 0} → (X → Type 0) → (X → List ℕ) → Faults → (from to : Place) → Result X DataFault
+    → Type 0
+Answered fits spell F from to (Ok x) = fits x × Passes from (spell x) to
+Answered fits spell F from to (Err NoMemory) = Unit {0}
+Answered fits spell F from to (Err (At at kind)) = FaultAt F from (record { at = at; kind = kind })
 
 abbrev pub fault_at : Place → ℕ → DataKind → Fault
 fault_at from off kind = record { at = from.at + off; kind = kind }

@@ -4,21 +4,25 @@
 
 mod cursor;
 mod fault;
+mod files;
 mod laws;
 mod listed;
 mod memory;
 mod numbers;
 mod record;
 mod strings;
+mod writer;
 
 pub use cursor::Cursor;
 pub use fault::{DataFault, DataKind, WireFault};
+pub use files::{FramesFault, file_readings, read_frames};
 pub use laws::{layout_readings, spellings};
 pub use listed::{Args, Bytes, Listed, Twin};
 pub use memory::NoMemory;
 pub use numbers::{put_varint, take_varint};
-pub use record::{Record, decode, encode, put, put_frame, record_readings, write_many};
+pub use record::{Record, decode, encode, encode_frame, put, put_frame, record_readings};
 pub use strings::{put_varstring, take_varstring};
+pub use writer::Writer;
 
 /// The name of an entry or an asset: 32 raw bytes.
 pub type Id = [u8; 32];

@@ -1,4 +1,4 @@
-ghost use Rattle.std.specs.Prelude.{◌≡◌, ◌↔◌, [], ◌∷◌, ◌++◌, take, length, IsTrue, OnOk, OnErr, IfOk};
+ghost use Rattle.std.specs.Prelude.{◌≡◌, ◌↔◌, ◌≤◌, ◌+◌, [], ◌∷◌, ◌++◌, take, drop, length, IsTrue, OnOk, OnErr, IfOk};
 
 use crate::NoMemory;
 use std::alloc::Global;
@@ -138,6 +138,15 @@ impl Listed<u8> {
     {
         self.items.extend_from_slice(items)?;
         Ok(())
+    }
+
+    // Brings all that stands behind so many bytes, those from this place on, in front of them.
+    pub(crate) fn turn(&mut self, from: usize, len: usize)
+        requires { from + len ≤ length self.old }
+        ensures { self.new
+            ≡ take from self.old ++ (drop len (drop from self.old) ++ take len (drop from self.old)) }
+    {
+        self.items[from..].rotate_left(len);
     }
 }
 

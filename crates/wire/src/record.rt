@@ -1,16 +1,13 @@
 //! Records that are read from bytes and written to them, and lists and frames of them.
-ghost use Rattle.std.specs.Prelude.{◌≡◌, ◌↔◌, ◌==◌, ◌≤◌, ◌<◌, ◌^◌, ◌++◌, ◌-◌, [], ◌∷◌, ℕ, List, length, Ok, Err, OnOk};
-ghost use Rattle.std.specs.Prelude.{OnErr, IfOk};
-ghost use Rattle.std.specs.List.{flat_map, AllByRecursion};
-ghost use Rattle.wire.specs.Spelling.{varint, varstring};
+ghost use Rattle.std.specs.Prelude.{◌≡◌, ◌≤◌, ◌++◌, ◌-◌, ℕ, List, length, Ok, Err, OnOk, OnErr, IfOk};
+ghost use Rattle.wire.specs.Spelling.{varstring};
 ghost use Rattle.wire.specs.Places.{Place, Fault, Reading, Reads, Gives, start, passes_room, item_at, items_at};
 ghost use Rattle.wire.specs.Places.{many_at, whole_at, frame_at};
-ghost use Rattle.wire.specs.Layout.{IsNumber};
 ghost use Rattle.wire.specs.FirstFault.{Faults, WholeFault};
 ghost use Rattle.wire.specs.Readers.{IsReader, IsWholeReader};
 ghost use Rattle.wire.specs.LayoutLaws.{SpellingLaws};
 
-use crate::{Bytes, Cursor, DataFault, DataKind, Listed, NoMemory, put_varint, put_varstring};
+use crate::{Bytes, Cursor, DataFault, DataKind, Listed, NoMemory, Writer};
 use std::alloc::Global;
 
 /// A record: which of its values are within the limits, how those are spelled, and the first fault of other bytes.
@@ -27,8 +24,8 @@ pub trait Record: Drop + Sized {
     fn read(alloc: Global, cursor: &mut Cursor<'_>) -> Result<Self, DataFault>
         ensures { Reads result cursor.new (reading cursor.old) };
 
-    /// Appends the spelling of a record. After a refusal some of it may stand there: `put` leaves `out` as it was.
-    fn write(&self, alloc: Global, out: &mut Bytes) -> Result<(), NoMemory>
+    /// Writes the spelling of a record. `encode` and `put` are the calls for those who have no writer.
+    fn write(&self, out: &mut Writer) -> Result<(), NoMemory>
         requires { fits self.now }
         ensures { OnOk result (out.new ≡ out.old ++ spelling self.now) };
 
@@ -86,9 +83,19 @@ pub fn encode<T: Record>(alloc: Global, value: &T) -> Result<Vec<u8>, NoMemory>
     requires { T.fits value.now }
     ensures { IfOk result (λ bytes. bytes.items ≡ T.spelling value.now) }
 {
-    let mut out = Bytes::new(alloc);
-    value.write(alloc, &mut out)?;
-    Ok(out.into_vec())
+    let mut out = Writer::new(alloc)?;
+    value.write(&mut out)?;
+    Ok(out.end())
+}
+
+/// The spelling of a record behind its length.
+pub fn encode_frame<T: Record>(alloc: Global, value: &T) -> Result<Vec<u8>, NoMemory>
+    requires { T.fits value.now }
+    ensures { IfOk result (λ bytes. bytes.items ≡ varstring (T.spelling value.now)) }
+{
+    let mut out = Writer::new(alloc)?;
+    out.frame(value)?;
+    Ok(out.end())
 }
 
 /// Appends the spelling of a record. After a refusal `out` is as it was.
@@ -101,28 +108,14 @@ pub fn put<T: Record>(alloc: Global, out: &mut Bytes, value: &T) -> Result<(), N
     out.extend_from_slice(held.as_slice())
 }
 
-/// Appends how many records there are, and the records, as a part of a record's own `write`. After a refusal some of
-/// them may stand there.
-pub fn write_many<T: Record>(alloc: Global, out: &mut Bytes, records: &[T]) -> Result<(), NoMemory>
-    requires count { length records.now < 2 ^ 63 }
-    requires each { AllByRecursion T.fits records.now }
-    ensures { OnOk result (out.new ≡ out.old ++ (varint (length records.now) ++ flat_map T.spelling records.now)) }
-{
-    put_varint(out, records.len() as u64)?;
-    for value in records {
-        value.write(alloc, out)?;
-    }
-    Ok(())
-}
-
 /// Appends a record behind its length. After a refusal `out` is as it was.
 pub fn put_frame<T: Record>(alloc: Global, out: &mut Bytes, value: &T) -> Result<(), NoMemory>
     requires { T.fits value.now }
     ensures ok { OnOk result (out.new ≡ out.old ++ varstring (T.spelling value.now)) }
     ensures err { OnErr result (out.new ≡ out.old) }
 {
-    let held = encode(alloc, value)?;
-    put_varstring(out, held.as_slice())
+    let held = encode_frame(alloc, value)?;
+    out.extend_from_slice(held.as_slice())
 }
 
 const MAX_STRING_LEN: u64 = 65_536;
@@ -146,8 +139,8 @@ impl Record for Bytes {
         cursor.text(alloc, MAX_STRING_LEN)
     }
 
-    fn write(&self, _alloc: Global, out: &mut Bytes) -> Result<(), NoMemory> {
-        put_varstring(out, self.as_slice())
+    fn write(&self, out: &mut Writer) -> Result<(), NoMemory> {
+        out.text(self.as_slice())
     }
 
     fn readings() {}

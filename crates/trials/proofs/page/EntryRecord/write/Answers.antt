@@ -7,8 +7,8 @@ use Rattle.trials.proofs.page.EntryRecord.write.Goals as goal
 pub write-requires : goal.write-requires
 write-requires c = (subst EntryFits c.in-Note.is c.requires).1
 
-pub returns-in_ok-push-in-Note : goal.returns-in_ok-push-in-Note
-returns-in_ok-push-in-Note c =
+pub returns-in_ok-kind-in-Note : goal.returns-in_ok-kind-in-Note
+returns-in_ok-kind-in-Note c =
     let IsWritten : Entry → Type 0 = λ entry. OnOk c.write.result (c.write.new.out ≡ c.args.out.now ++ entry_spelling entry) in
-    let added : c.push-in-Note.new.self ≡ c.args.out.now ++ 1 ∷ [] = c.in_ok-push-in-Note.ensures.ok in
+    let added : c.kind-in-Note.new.self ≡ c.args.out.now ++ 1 ∷ [] = c.in_ok-kind-in-Note.ensures in
     subst IsWritten (sym c.in-Note.is) (rw (added, append_assoc) at c.write.ensures)
