@@ -8,4 +8,5 @@ pub mod Readers
 pub mod LayoutLaws
 pub mod Records
 pub mod Files
+pub mod Kinds
 pub mod Tables

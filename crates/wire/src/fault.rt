@@ -1,8 +1,10 @@
-ghost use Rattle.std.specs.Prelude.{◌≡◌};
+ghost use Rattle.std.specs.Prelude.{◌≡◌, Some};
 ghost use Rattle.wire.specs.declared.fault.DataFault.TheVariants.{NoMemory};
+ghost use Rattle.wire.specs.Kinds.{kind_name};
 ghost use Rattle.wire.specs.Places.{kind_of};
 
 use crate::NoMemory;
+use std::fmt;
 
 /// Why bytes don't begin with a spelling.
 #[derive(Clone, Copy, Debug, PartialEq, Eq)]
@@ -41,6 +43,22 @@ pub enum DataKind {
     Trailing,
     /// A file has not the number of records that it should have. No reader of one record tells this.
     Count,
+}
+
+impl fmt::Display for DataKind {
+    ghost output = { λ kind. Some (kind_name kind) };
+
+    fn fmt<W: fmt::Write>(&self, f: &mut fmt::Formatter<W>) -> fmt::Result {
+        match self {
+            DataKind::Short => write!(f, "Short"),
+            DataKind::NotShortest => write!(f, "NotShortest"),
+            DataKind::TooBig => write!(f, "TooBig"),
+            DataKind::Zero => write!(f, "Zero"),
+            DataKind::Kind => write!(f, "Kind"),
+            DataKind::Trailing => write!(f, "Trailing"),
+            DataKind::Count => write!(f, "Count"),
+        }
+    }
 }
 
 impl From<WireFault> for DataKind {
