@@ -7,18 +7,25 @@ use Rattle.std.proofs.lemmas.List.{append-nil}
 use Rattle.std.proofs.lemmas.List.Elements.{All-nil, All-cons}
 use Rattle.data_model.specs.declared.block.Block.{Block}
 use Rattle.vm_run.specs.Row.{Check}
+use Rattle.ledger_core.specs.Refusal.{Hash}
 use Rattle.outside.specs.Files.{Content, Write, Append, bytes_in, write_of, IsAppended}
 use Rattle.outside.specs.Crash.{State, StepAt, Leads, MayLeave, cut_short, IsMoment}
 use Rattle.outside.specs.CrashLaws.{MomentsJoin, OthersStay, StartsKept}
 use Rattle.chain_top.specs.Answer.{done_of}
-use Rattle.chain_top.specs.Frames.{frame_spelling, file_spelling}
+use Rattle.data_model.specs.Files.{block_frame}
+use Rattle.chain_top.specs.Files.{file_spelling}
 use Rattle.chain_top.specs.Growth.{HoldsBlocks, appends, Grows, IsTorn, LeavesFront, ApplyCrash, GrowthLaws, CrashLaws}
-use Rattle.chain_top.specs.Reply.{Hash, Reply}
+use Rattle.chain_top.specs.Reply.{Reply}
+use Rattle.chain_top.specs.Steps.{writes_of}
 use Rattle.chain_top.specs.Word.{Word}
 use Rattle.chain_top.proofs.Growing.{same_name}
-use Rattle.chain_top.proofs.Offering.{moment_more}
 
 -- ---- moments
+
+-- a moment of the first of some writes
+pub moment_more : (ws vs seen : List Write) → IsMoment ws seen → IsMoment (ws ++ vs) seen
+moment_more ws vs seen (inl (rest, e)) = inl (rest ++ vs, ap (λ (x : List Write). x ++ vs) e ∙ append_assoc seen rest vs)
+moment_more ws vs seen (inr (before, w, rest, e, s)) = inr (before, w, rest ++ vs, ap (λ (x : List Write). x ++ vs) e ∙ append_assoc before (w ∷ rest) vs, s)
 
 no_write : (w : Write) (ws : List Write) → [] ≡ w ∷ ws → ⊥
 no_write w ws e = cc
@@ -90,11 +97,11 @@ before_all ledger bytes added [] new none leads = leaves_all bytes added new.lef
 before_all ledger bytes added (v ∷ seen) new none leads = absurd (no_write v seen (sym none))
 
 -- the first append was not answered Ok
-in_first : (ledger : Word) (bytes : List ℕ) (block : Block) (added : List Block) (new : State) → Leads ledger (cut_short (write_of Append ledger (frame_spelling block) true) ∷ []) (at_start bytes) new → LeavesFront bytes (block ∷ added) 0 new.left
+in_first : (ledger : Word) (bytes : List ℕ) (block : Block) (added : List Block) (new : State) → Leads ledger (cut_short (write_of Append ledger (block_frame block) true) ∷ []) (at_start bytes) new → LeavesFront bytes (block ∷ added) 0 new.left
 unfolding at_start
 in_first ledger bytes block added new (mid, step, same) = by_torn (MatchBool-at_true _ _ (same_name ledger) step.1)
   where
-    by_torn : (torn : List ℕ) × (length torn ≤ length (frame_spelling block)) × IsAppended (Some bytes) torn mid.left → LeavesFront bytes (block ∷ added) 0 new.left
+    by_torn : (torn : List ℕ) × (length torn ≤ length (block_frame block)) × IsAppended (Some bytes) torn mid.left → LeavesFront bytes (block ∷ added) 0 new.left
     by_torn (torn, short, inl is) = record {
       kept = [];
       rest = block ∷ added;
@@ -107,14 +114,14 @@ in_first ledger bytes block added new (mid, step, same) = by_torn (MatchBool-at_
     by_torn (torn, short, inr (none, is)) = leaves_all bytes (block ∷ added) new.left (ap (λ (s : State). s.left) same ∙ is)
 
 -- it was
-past_first : (ledger : Word) (bytes : List ℕ) (block : Block) (mid : State) → StepAt ledger (write_of Append ledger (frame_spelling block) true) (at_start bytes) mid → mid ≡ at_start (bytes ++ frame_spelling block)
+past_first : (ledger : Word) (bytes : List ℕ) (block : Block) (mid : State) → StepAt ledger (write_of Append ledger (block_frame block) true) (at_start bytes) mid → mid ≡ at_start (bytes ++ block_frame block)
 unfolding at_start
 past_first ledger bytes block mid step =
-    let reads : mid.read ≡ Some (bytes ++ frame_spelling block) = MatchBool-at_true _ _ (same_name ledger) step.0 in
-    let leaves : mid.left ≡ Some (bytes ++ frame_spelling block) = MatchBool-at_true _ _ (same_name ledger) step.1 ∙ reads in
+    let reads : mid.read ≡ Some (bytes ++ block_frame block) = MatchBool-at_true _ _ (same_name ledger) step.0 in
+    let leaves : mid.left ≡ Some (bytes ++ block_frame block) = MatchBool-at_true _ _ (same_name ledger) step.1 ∙ reads in
     λ i. record { read = reads i; left = leaves i }
 
-leaves_more : (bytes : List ℕ) (block : Block) (added : List Block) (answered : ℕ) (left : Content) → LeavesFront (bytes ++ frame_spelling block) added answered left → LeavesFront bytes (block ∷ added) (suc answered) left
+leaves_more : (bytes : List ℕ) (block : Block) (added : List Block) (answered : ℕ) (left : Content) → LeavesFront (bytes ++ block_frame block) added answered left → LeavesFront bytes (block ∷ added) (suc answered) left
 leaves_more bytes block added answered left r = record {
   kept = block ∷ r.kept;
   rest = r.rest;
@@ -122,22 +129,22 @@ leaves_more bytes block added answered left r = record {
   parts = ap (λ (bs : List Block). block ∷ bs) r.parts;
   is_torn = r.is_torn;
   all_answered = omega (arith, r.all_answered);
-  leaves = r.leaves ∙ ap (λ (x : List ℕ). Some (x ++ r.torn)) (append_assoc bytes (frame_spelling block) (file_spelling r.kept));
+  leaves = r.leaves ∙ ap (λ (x : List ℕ). Some (x ++ r.torn)) (append_assoc bytes (block_frame block) (file_spelling r.kept));
 }
 
 leaves_front : (ledger : Word) (added : List Block) (bytes : List ℕ) (seen : List Write) (new : State) → IsMoment (appends ledger added) seen → Leads ledger seen (at_start bytes) new → LeavesFront bytes added (done_of seen) new.left
 leaves_front ledger [] bytes seen new m leads = before_all ledger bytes [] seen new (none_begun seen m) leads
 leaves_front ledger (block ∷ added) bytes seen new m leads =
-    by_front (λ later n there. leaves_front ledger added (bytes ++ frame_spelling block) later new n there) (front_of _ (appends ledger added) seen m)
+    by_front (λ later n there. leaves_front ledger added (bytes ++ block_frame block) later new n there) (front_of _ (appends ledger added) seen m)
   where
     first : Write
-    first = write_of Append ledger (frame_spelling block) true
+    first = write_of Append ledger (block_frame block) true
 
-    behind : ((later : List Write) → IsMoment (appends ledger added) later → Leads ledger later (at_start (bytes ++ frame_spelling block)) new → LeavesFront (bytes ++ frame_spelling block) added (done_of later) new.left) → (later : List Write) → IsMoment (appends ledger added) later → Leads ledger (write_of Append ledger (frame_spelling block) true ∷ later) (at_start bytes) new → LeavesFront bytes (block ∷ added) (suc (done_of later)) new.left
+    behind : ((later : List Write) → IsMoment (appends ledger added) later → Leads ledger later (at_start (bytes ++ block_frame block)) new → LeavesFront (bytes ++ block_frame block) added (done_of later) new.left) → (later : List Write) → IsMoment (appends ledger added) later → Leads ledger (write_of Append ledger (block_frame block) true ∷ later) (at_start bytes) new → LeavesFront bytes (block ∷ added) (suc (done_of later)) new.left
     behind more later n (mid, step, rest) =
         leaves_more bytes block added (done_of later) new.left (more later n (subst (λ (s : State). Leads ledger later s new) (past_first ledger bytes block mid step) rest))
 
-    by_front : ((later : List Write) → IsMoment (appends ledger added) later → Leads ledger later (at_start (bytes ++ frame_spelling block)) new → LeavesFront (bytes ++ frame_spelling block) added (done_of later) new.left) → Front (write_of Append ledger (frame_spelling block) true) (appends ledger added) seen → LeavesFront bytes (block ∷ added) (done_of seen) new.left
+    by_front : ((later : List Write) → IsMoment (appends ledger added) later → Leads ledger later (at_start (bytes ++ block_frame block)) new → LeavesFront (bytes ++ block_frame block) added (done_of later) new.left) → Front (write_of Append ledger (block_frame block) true) (appends ledger added) seen → LeavesFront bytes (block ∷ added) (done_of seen) new.left
     by_front more (inl none) = before_all ledger bytes (block ∷ added) seen new none leads
     by_front more (inr (inl cut)) =
         subst (λ (xs : List Write). LeavesFront bytes (block ∷ added) (done_of xs) new.left) (sym cut)
@@ -156,7 +163,7 @@ all_others name ledger [] seen other m = subst (All (Other name)) (sym (none_beg
 all_others name ledger (block ∷ added) seen other m =
     by_front (λ later n. all_others name ledger added later other n) (front_of _ (appends ledger added) seen m)
   where
-    by_front : ((later : List Write) → IsMoment (appends ledger added) later → All (Other name) later) → Front (write_of Append ledger (frame_spelling block) true) (appends ledger added) seen → All (Other name) seen
+    by_front : ((later : List Write) → IsMoment (appends ledger added) later → All (Other name) later) → Front (write_of Append ledger (block_frame block) true) (appends ledger added) seen → All (Other name) seen
     by_front more (inl none) = subst (All (Other name)) (sym none) (All-nil (Other name))
     by_front more (inr (inl cut)) = subst (All (Other name)) (sym cut) (All-cons (Other name) _ [] other (All-nil (Other name)))
     by_front more (inr (inr (later, n, whole))) = subst (All (Other name)) (sym whole) (All-cons (Other name) _ later other (more later n))
@@ -169,7 +176,7 @@ was_there (Some bytes) bs h = refl
 
 module _ (join : MomentsJoin) (others_stay : OthersStay) (starts : StartsKept) (hash : Hash) (check : Check) (laws : GrowthLaws hash check) where
   module _ (ledger offers : Word) (before left : List ℕ → Content) (reply : Reply) (begun seen : List Write) (crash : ApplyCrash hash check ledger offers before reply begun seen left) where
-    seen_of : (ws : List Write) → reply.writes ≡ ws → IsMoment ws seen
+    seen_of : (ws : List Write) → writes_of reply.steps ≡ ws → IsMoment ws seen
     seen_of ws is = nested join ws begun seen (subst (λ (xs : List Write). IsMoment xs begun) is crash.begins) crash.comes
 
     torn : (grows : Grows hash check ledger (before ledger) (before offers) reply) → LeavesFront (bytes_in (before ledger)) grows.added (done_of seen) (left ledger)
@@ -181,21 +188,21 @@ module _ (join : MomentsJoin) (others_stay : OthersStay) (starts : StartsKept) (
         leaves_front ledger grows.added (bytes_in (before ledger)) seen (record { read = read; left = left ledger }) (seen_of (appends ledger grows.added) grows.writes) from
 
     -- nothing is written
-    none_left : (name : List ℕ) → reply.writes ≡ [] → left name ≡ before name
+    none_left : (name : List ℕ) → writes_of reply.steps ≡ [] → left name ≡ before name
     none_left name none =
         let nothing = none_begun seen (seen_of [] none) in
         (starts name (before name) (left name)).0 (subst (λ (xs : List Write). MayLeave name (before name) xs (left name)) nothing (crash.leaves name))
 
     stays : reply.status ≢ 0 → left ledger ≡ before ledger
-    stays failed = none_left ledger (laws.stays ledger offers (before ledger) (before offers) reply crash.is_reply failed)
+    stays failed = none_left ledger (laws.stays ledger offers crash.is_reply.0 reply crash.is_reply.1 failed)
 
     others : (name : List ℕ) → bytes_eq name ledger ≡ false → left name ≡ before name
     others name other = by_status (cases_eq reply.status 0)
       where
         by_status : (reply.status ≡ 0) ⊎ (reply.status ≡ 0 → ⊥) → left name ≡ before name
-        by_status (inr failed) = none_left name (laws.stays ledger offers (before ledger) (before offers) reply crash.is_reply failed)
+        by_status (inr failed) = none_left name (laws.stays ledger offers crash.is_reply.0 reply crash.is_reply.1 failed)
         by_status (inl done) =
-            (let grows = laws.grows ledger offers (before ledger) (before offers) reply crash.is_reply done in
+            (let grows = laws.grows_for ledger offers before reply crash.is_reply done in
             let all = all_others name ledger grows.added seen other (seen_of (appends ledger grows.added) grows.writes) in
             let (read, leads) = crash.leaves name in
             ap (λ (s : State). s.left) ((others_stay name seen _ _ all).0 leads))

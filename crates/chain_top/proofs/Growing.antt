@@ -1,25 +1,33 @@
 -- What `apply` makes of the ledger's file.
-use Rattle.std.proofs.Common.{◌≡◌, ◌≢◌, ℕ, zero, suc, ◌+◌, ◌<◌, true, List, [], ◌∷◌, ◌++◌, length, get_or, Option, Some, None, IsSomeAnd, Ok, refl, sym, ◌∙◌, ap, subst, append_assoc, arith}
+use Rattle.std.proofs.Common.{◌≡◌, ◌≢◌, ℕ, zero, suc, ◌+◌, ◌<◌, true, List, [], ◌∷◌, ◌++◌, get_or, Option, Some, None, IsSomeAnd, Ok, refl, sym, ◌∙◌, ap, subst, append_assoc, arith}
 use Rattle.std.specs.Str.{bytes_eq}
 use Rattle.std.proofs.lemmas.Bool.{MatchBool-at_true, MatchBool-at_false}
 use Rattle.std.proofs.lemmas.List.{append-nil}
 use Rattle.std.proofs.lemmas.Slice.Eq.{bytes_eq-Decides}
 use Rattle.wire.specs.Spelling.{AreBytes}
 use Rattle.data_model.specs.declared.block.Block.{Block}
+use Rattle.entry_ids.specs.Entry.{header_id}
 use Rattle.vm_run.specs.Row.{Check}
 use Rattle.ledger_core.specs.declared.refusal.BlockRefusal.{BlockRefusal}
 use Rattle.ledger_core.specs.Chain.{Chain, Accepted}
-use Rattle.ledger_core.proofs.Offers as chains
-use Rattle.outside.specs.Files.{Content, Read, Write, Append, bytes_in, write_of, ReadsAt}
+use Rattle.ledger_core.specs.Refusal.{Hash}
+use Rattle.outside.specs.Files.{Content, Append, bytes_in, write_of, ReadsAt}
+use Rattle.outside.specs.Files as files
+use Rattle.outside.specs.Steps.{Step, Read, Print}
 use Rattle.chain_top.specs.Answer.{GoesOn}
-use Rattle.chain_top.specs.Frames.{AreFramed, frame_spelling, file_spelling, FileReadsAs}
-use Rattle.chain_top.specs.Growth.{HoldsBlocks, appends, offers_told, Grows, EndsGrown, GrowthLaws}
-use Rattle.chain_top.specs.Line.{refused_size}
-use Rattle.chain_top.specs.Loading.{Stop, Missing, Refusing, file_read, BytesOf, read, BlocksOf, blocks, LedgerOf, chain}
-use Rattle.chain_top.specs.Reply.{Hash, Line, Reply, stopped as stopped_reply, OfferTells, accepted, refused, Applied, none, next, ApplyReply, no_ledger, no_offers, too_long, done}
+use Rattle.chain_top.specs.Asking.{missing, too_long, found, checks, refused as is_refused, goes_on}
+use Rattle.data_model.specs.Files.{block_frame, BlocksReadAs}
+use Rattle.chain_top.specs.Files.{AreFramed, file_spelling}
+use Rattle.chain_top.specs.Growth.{HoldsBlocks, appends, offers_told, Grows, EndsGrown, ApplyReply, ApplyFor, GrowthLaws}
+use Rattle.chain_top.specs.Line.{accepted_line, refused_block}
+use Rattle.chain_top.specs.Loading.{chain, most_bytes, LedgerOf, BlocksOf, FitsWith}
+use Rattle.chain_top.specs.Offers.{OfferOwes, accepted, refused, OffersOwe, none, next, offers_model}
+use Rattle.chain_top.specs.Plan.{End, Done, Refused, Missing, Plan, done, behind, Given, later, GivenBy}
+use Rattle.chain_top.specs.Reply.{Reply, ended, reply_of, offered_model, offer_file_model, ledger_model, apply_model}
+use Rattle.chain_top.specs.Steps.{Line, lines_after, lines_of, reads_of, writes_of}
 use Rattle.chain_top.specs.Word.{Word}
-use Rattle.chain_top.proofs.FileLaws.{FileReadsAs-append}
-use Rattle.chain_top.proofs.FrameLemmas.{AreBytes-front, AreBytes-behind}
+use Rattle.chain_top.proofs.Flat.{writes-both}
+use Rattle.chain_top.specs.Known.{Known}
 
 -- ---- bytes
 
@@ -34,115 +42,219 @@ AreBytes-append (x ∷ xs) ys hx hy = λ i. by_place i (hx 0) (AreBytes-append x
 no_bytes : AreBytes []
 no_bytes i = omega arith
 
+AreBytes-behind : (xs ys : List ℕ) → AreBytes (xs ++ ys) → AreBytes ys
+AreBytes-behind [] ys are = are
+AreBytes-behind (x ∷ xs) ys are = AreBytes-behind xs ys (λ i. are (suc i))
+
+first_byte : (x : ℕ) (xs : List ℕ) → x < 256 → AreBytes xs → AreBytes (x ∷ xs)
+first_byte x xs first others zero = first
+first_byte x xs first others (suc i) = others i
+
+AreBytes-front : (xs ys : List ℕ) → AreBytes (xs ++ ys) → AreBytes xs
+AreBytes-front [] ys are = no_bytes
+AreBytes-front (x ∷ xs) ys are = first_byte x xs (are 0) (AreBytes-front xs ys (λ j. are (suc j)))
+
 -- ---- offers
 
 -- what a list of offers adds, and how it is told
-record Adds (hash : Hash) (check : Check) (ledger : Word) (old offers : List Block) (before : ℕ) (lines : List Line) (writes : List Write) : Type 0 where
+record Adds (hash : Hash) (check : Check) (ledger : Word) (old offers : List Block) (steps : List Step) : Type 0 where
   added : List Block
   verdicts : List (Option BlockRefusal)
   accepted : Accepted hash check old offers (old ++ added) verdicts
-  lines_are : lines ≡ offers_told hash before offers verdicts
-  writes_are : writes ≡ appends ledger added
+  lines_are : (before : ℕ) → lines_after before steps ≡ offers_told hash before offers verdicts
+  writes_are : writes_of steps ≡ appends ledger added
   framed : AreFramed offers → AreFramed added
   fit : AreBytes (file_spelling offers) → AreBytes (file_spelling added)
 
-module _ (hash : Hash) (check : Check) (ledger : Word) where
-  adds_none : (old : List Block) (before : ℕ) → Adds hash check ledger old [] before [] []
-  adds_none old before = record { added = []; verdicts = []; accepted = append-nil old; lines_are = refl; writes_are = refl; framed = λ h. h; fit = λ h. h }
+one_more : (n : ℕ) → suc n ≡ n + 1
+one_more n = omega arith
 
-  adds_one : (old : List Block) (block : Block) (offers : List Block) (before : ℕ) (text : List ℕ) (lines : List Line) (writes later : List Write) (after : List Block) → OfferTells hash check ledger old block after text writes → Adds hash check ledger after offers (before + length writes) lines later → Adds hash check ledger old (block ∷ offers) before (record { text = text; after = before + length writes } ∷ lines) (writes ++ later)
-  adds_one old block offers before text lines writes later after (accepted valid) rest =
+module _ (hash : Hash) (check : Check) (ledger : Word) where
+  adds_one : (old : List Block) (block : Block) (offers after : List Block) (steps later : List Step) → OfferOwes hash check ledger old block after steps → Adds hash check ledger after offers later → Adds hash check ledger old (block ∷ offers) (steps ++ later)
+  adds_one old block offers after steps later (accepted valid) rest =
       let behind : (old ++ block ∷ []) ++ rest.added ≡ old ++ block ∷ rest.added = append_assoc old (block ∷ []) rest.added in
+      let line : ℕ → Line = λ n. record { text = accepted_line block.header.height (header_id hash block.header); after = n } in
       record {
         added = block ∷ rest.added;
         verdicts = None ∷ rest.verdicts;
         accepted = (valid, subst (λ (bs : List Block). Accepted hash check (old ++ block ∷ []) offers bs rest.verdicts) behind rest.accepted);
-        lines_are = ap (λ (ls : List Line). record { text = text; after = before + 1 } ∷ ls) rest.lines_are;
-        writes_are = ap (λ (ws : List Write). write_of Append ledger (frame_spelling block) true ∷ ws) rest.writes_are;
+        lines_are = λ before.
+            ap (λ (ls : List Line). line (suc before) ∷ ls) (rest.lines_are (suc before))
+            ∙ ap (λ (n : ℕ). line n ∷ offers_told hash n offers rest.verdicts) (one_more before);
+        writes_are = ap (λ (ws : List files.Write). write_of Append ledger (block_frame block) true ∷ ws) rest.writes_are;
         framed = λ h. (h.0, rest.framed h.1);
-        fit = λ h. AreBytes-append (frame_spelling block) (file_spelling rest.added) (AreBytes-front (frame_spelling block) (file_spelling offers) h) (rest.fit (AreBytes-behind (frame_spelling block) (file_spelling offers) h));
+        fit = λ h. AreBytes-append (block_frame block) (file_spelling rest.added) (AreBytes-front (block_frame block) (file_spelling offers) h) (rest.fit (AreBytes-behind (block_frame block) (file_spelling offers) h));
       }
-  adds_one old block offers before text lines writes later after (refused {line = line} why) rest =
-      let none_more : before + 0 ≡ before = omega arith in
-      record {
-        added = rest.added;
-        verdicts = Some line ∷ rest.verdicts;
-        accepted = (why, rest.accepted);
-        lines_are = ap (λ (ls : List Line). record { text = text; after = before + 0 } ∷ ls) rest.lines_are ∙ ap (λ (n : ℕ). record { text = text; after = n } ∷ offers_told hash n offers rest.verdicts) none_more;
-        writes_are = rest.writes_are;
-        framed = λ h. rest.framed h.1;
-        fit = λ h. rest.fit (AreBytes-behind (frame_spelling block) (file_spelling offers) h);
-      }
+  adds_one old block offers after steps later (refused {why = why} not) rest = record {
+    added = rest.added;
+    verdicts = Some why ∷ rest.verdicts;
+    accepted = (not, rest.accepted);
+    lines_are = λ before. ap (λ (ls : List Line). record { text = refused_block why; after = before } ∷ ls) (rest.lines_are before);
+    writes_are = rest.writes_are;
+    framed = λ h. rest.framed h.1;
+    fit = λ h. rest.fit (AreBytes-behind (block_frame block) (file_spelling offers) h);
+  }
 
-  adds : (old offers : List Block) (before : ℕ) (lines : List Line) (writes : List Write) → Applied hash check ledger old offers before lines writes → Adds hash check ledger old offers before lines writes
-  adds old offers before lines writes none = adds_none old before
-  adds old offers before lines writes (next {after = after} {offers = rest} {block = block} {text = text} {lines = ls} {writes = now} {later = later} tells more) =
-      adds_one old block rest before text ls now later after tells (adds after rest (before + length now) ls later more)
+  adds : (old offers : List Block) (steps : List Step) → OffersOwe hash check ledger old offers steps → Adds hash check ledger old offers steps
+  adds old offers steps none = record { added = []; verdicts = []; accepted = append-nil old; lines_are = λ before. refl; writes_are = refl; framed = λ h. h; fit = λ h. h }
+  adds old offers steps (next after {offers = rest} {block = block} now more owes others) = adds_one old block rest after now more owes (adds after rest more others)
 
--- ---- files
+-- ---- a run of `apply`
 
-at_bytes : (place : ℕ) (content : Content) (bytes : List ℕ) (bs : List Block) → BytesOf place content (Ok bytes) → AreBytes bytes → FileReadsAs bytes (Ok bs) → HoldsBlocks content bs
-at_bytes place content bytes bs (read fits) are reads = (are, reads)
+-- both files were read, and the offers answered
+pub record Applied (hash : Hash) (check : Check) (ledger offers : Word) (given : Given) (plan : Plan) : Type 0 where
+  pub held : List ℕ
+  pub more : List ℕ
+  pub old : List Block
+  pub offered : List Block
+  pub steps : List Step
+  pub first : given 0 ≡ Some held
+  pub are : AreBytes held
+  pub is_ledger : LedgerOf hash check 1 held (Ok old)
+  pub second : given 1 ≡ Some more
+  pub fit : AreBytes more
+  pub are_offers : BlocksOf 2 more (Ok offered)
+  pub owe : OffersOwe hash check ledger old offered steps
+  pub is : plan ≡ done (Read ledger most_bytes ∷ Read offers most_bytes ∷ steps)
 
-holds_blocks : (place : ℕ) (content : Content) (found : List Block × ℕ) → BlocksOf place content (Ok found) → HoldsBlocks content found.0
-holds_blocks place content found (blocks {bytes = bytes} {blocks = bs} is are reads) = at_bytes place content bytes bs is are reads
+-- or the run ended at a file, and wrote nothing
+pub record Stopped (plan : Plan) : Type 0 where
+  pub ends : plan.end ≢ Done
+  pub nothing : writes_of plan.steps ≡ []
+
+pub data ApplyRun (hash : Hash) (check : Check) (ledger offers : Word) (given : Given) (plan : Plan) : Type 0 where
+  ran : Applied hash check ledger offers given plan → ApplyRun hash check ledger offers given plan
+  ended_at : Stopped plan → ApplyRun hash check ledger offers given plan
+
+not_missing : Missing ≡ Done → ⊥
+not_missing e = cc
+
+pub not_refused : (line : List ℕ) → Refused line ≡ Done → ⊥
+not_refused line e = cc
+
+module _ (hash : Hash) (check : Check) (ledger offers : Word) (given : Given) (held : List ℕ) (first : given 0 ≡ Some held) (are : AreBytes held) (old : List Block) (is_ledger : LedgerOf hash check 1 held (Ok old)) where
+  abbrev At : Plan → Type 0
+  At plan = ApplyRun hash check ledger offers given (behind (Read ledger most_bytes ∷ []) plan)
+
+  in_offers : (more : List ℕ) (offered : List Block) (plan : Plan) → given 1 ≡ Some more → AreBytes more → BlocksOf 2 more (Ok offered) → checks (FitsWith 2 held more) (λ fits. offers_model hash check ledger old offered) (later (later given)) plan → At (behind (Read offers most_bytes ∷ []) plan)
+  in_offers more offered plan second fit reads (is_refused bad) = ended_at (record { ends = λ e. absurd (not_refused _ e); nothing = refl })
+  in_offers more offered plan second fit reads (goes_on u fits (steps, owe, is)) = ran (record {
+    held = held;
+    more = more;
+    old = old;
+    offered = offered;
+    steps = steps;
+    first = first;
+    are = are;
+    is_ledger = is_ledger;
+    second = second;
+    fit = fit;
+    are_offers = reads;
+    owe = owe;
+    is = ap (λ (p : Plan). behind (Read ledger most_bytes ∷ []) (behind (Read offers most_bytes ∷ []) p)) is;
+  })
+
+  in_blocks : (more : List ℕ) (plan : Plan) → given 1 ≡ Some more → AreBytes more → offered_model hash check ledger held old more (later (later given)) plan → At (behind (Read offers most_bytes ∷ []) plan)
+  in_blocks more plan second fit (is_refused bad) = ended_at (record { ends = λ e. absurd (not_refused _ e); nothing = refl })
+  in_blocks more plan second fit (goes_on offered reads rest) = in_offers more offered plan second fit reads rest
+
+  in_file : (plan : Plan) → offer_file_model hash check ledger offers held old (later given) plan → At plan
+  in_file plan (missing is) = ended_at (record { ends = λ e. absurd (not_missing e); nothing = refl })
+  in_file plan (too_long bytes is past) = ended_at (record { ends = λ e. absurd (not_refused _ e); nothing = refl })
+  in_file plan (found more rest is short fit n) = in_blocks more rest is fit n
+
+module _ (hash : Hash) (check : Check) (ledger offers : Word) (given : Given) where
+  in_ledger : (held : List ℕ) (plan : Plan) → given 0 ≡ Some held → AreBytes held → ledger_model hash check ledger offers held (later given) plan → ApplyRun hash check ledger offers given (behind (Read ledger most_bytes ∷ []) plan)
+  in_ledger held plan first are (is_refused bad) = ended_at (record { ends = λ e. absurd (not_refused _ e); nothing = refl })
+  in_ledger held plan first are (goes_on old good rest) = in_file hash check ledger offers given held first are old good plan rest
+
+  pub apply_run : (plan : Plan) → apply_model hash check ledger offers given plan → ApplyRun hash check ledger offers given plan
+  apply_run plan (missing is) = ended_at (record { ends = λ e. absurd (not_missing e); nothing = refl })
+  apply_run plan (too_long bytes is past) = ended_at (record { ends = λ e. absurd (not_refused _ e); nothing = refl })
+  apply_run plan (found held rest is short are n) = in_ledger held rest is are n
 
 -- what a file that is there reads as
-held_reads : (content : Content) (bs : List Block) → HoldsBlocks content bs → AreBytes (bytes_in content) × FileReadsAs (bytes_in content) (Ok bs)
+held_reads : (content : Content) (bs : List Block) → HoldsBlocks content bs → AreBytes (bytes_in content) × BlocksReadAs (bytes_in content) (Ok bs)
 held_reads None bs h = absurd h
 held_reads (Some bytes) bs h = (h.0, h.1)
 
-module _ (hash : Hash) (check : Check) where
-  holds_chain : (content : Content) (held : List Block × ℕ) → LedgerOf hash check content (Ok held) → HoldsBlocks content held.0 × Chain hash check held.0
-  holds_chain content held (chain {blocks = bs} {len = len} is front) = (holds_blocks 1 content (bs, len) is, front)
+module _ (laws : Known) (hash : Hash) (check : Check) where
+  ledger_reads : (held : List ℕ) (old : List Block) → LedgerOf hash check 1 held (Ok old) → BlocksReadAs held (Ok old) × Chain hash check old
+  ledger_reads held old (chain reads front) = (reads, front)
 
-  -- ---- replies
+  -- a status of 0 is that of a plan that is done
+  done_end : (steps : List Step) (end : End) → (ended steps end).status ≡ 0 → end ≡ Done
+  done_end steps Done at_zero = refl
+  done_end steps (Refused line) at_zero = absurd (omega (arith, at_zero))
+  done_end steps Missing at_zero = absurd (omega (arith, at_zero))
 
-  not_done : (stop : Stop) (reads : List Read) → (stopped_reply stop reads).status ≢ 0
-  not_done Missing reads = λ e. absurd (omega arith)
-  not_done (Refusing line) reads = λ e. absurd (omega arith)
+  not_done_status : (steps : List Step) (end : End) → (ended steps end).status ≢ 0 → end ≢ Done
+  not_done_status steps Done not_zero = λ e. absurd (not_zero refl)
+  not_done_status steps (Refused line) not_zero = λ e. absurd (not_refused line e)
+  not_done_status steps Missing not_zero = λ e. absurd (not_missing e)
 
-  no_writes : (stop : Stop) (reads : List Read) → (stopped_reply stop reads).writes ≡ []
-  no_writes Missing reads = refl
-  no_writes (Refusing line) reads = refl
+  writes_line : (steps : List Step) (end : End) → writes_of steps ≡ [] → writes_of (ended steps end).steps ≡ []
+  writes_line steps Done is = is
+  writes_line steps (Refused line) is = writes-both steps (Print line ∷ []) ∙ append-nil (writes_of steps) ∙ is
+  writes_line steps Missing is = is
 
-  module _ (ledger offers : Word) (first second : Content) where
-    grows_done : (held offered : List Block × ℕ) (lines : List Line) (writes : List Write) (reply : Reply) → LedgerOf hash check first (Ok held) → BlocksOf 2 second (Ok offered) → Applied hash check ledger held.0 offered.0 0 lines writes → reply.lines ≡ lines → reply.writes ≡ writes → Grows hash check ledger first second reply
-    grows_done held offered lines writes reply p q applied lines_are writes_are =
-        let a = adds hash check ledger held.0 offered.0 0 lines writes applied in
-        let old = holds_chain first held p in
-        let there = held_reads first held.0 old.0 in
-        let others = holds_blocks 2 second offered q in
-        let these = held_reads second offered.0 others in
-        let framed : AreFramed a.added = a.framed these.1.0 in
-        let fit : AreBytes (file_spelling a.added) = a.fit (subst AreBytes these.1.1 these.0) in
+  module _ (ledger offers : Word) where
+    grows_ran : (given : Given) (plan : Plan) (reply : Reply) → reply ≡ reply_of plan → Applied hash check ledger offers given plan → Grows hash check ledger (given 0) (given 1) reply
+    grows_ran given plan reply same run =
+        let a = adds hash check ledger run.old run.offered run.steps run.owe in
+        let old = ledger_reads run.held run.old run.is_ledger in
+        let holds : HoldsBlocks (given 0) run.old = subst (λ (c : Content). HoldsBlocks c run.old) (sym run.first) (run.are, old.0) in
+        let others : HoldsBlocks (given 1) run.offered = subst (λ (c : Content). HoldsBlocks c run.offered) (sym run.second) (run.fit, run.are_offers) in
+        let there = held_reads (given 0) run.old holds in
+        let framed : AreFramed a.added = a.framed run.are_offers.0 in
+        let fit : AreBytes (file_spelling a.added) = a.fit (subst AreBytes run.are_offers.1 run.fit) in
+        let steps : reply.steps ≡ Read ledger most_bytes ∷ Read offers most_bytes ∷ run.steps = ap (λ (r : Reply). r.steps) (same ∙ ap reply_of run.is) in
         record {
-          old = held.0;
-          offers = offered.0;
+          old = run.old;
+          offers = run.offered;
           added = a.added;
           verdicts = a.verdicts;
-          is_ledger = old.0;
+          is_ledger = holds;
           are_offers = others;
           is_chain = old.1;
           accepted = a.accepted;
-          lines = lines_are ∙ a.lines_are;
-          writes = writes_are ∙ a.writes_are;
-          grown = (AreBytes-append (bytes_in first) (file_spelling a.added) there.0 fit, FileReadsAs-append (bytes_in first) (file_spelling a.added) held.0 a.added there.1 (framed, refl));
-          stays_chain = chains.kept hash check held.0 offered.0 (held.0 ++ a.added) a.verdicts old.1 a.accepted;
+          lines = ap lines_of steps ∙ a.lines_are 0;
+          writes = ap writes_of steps ∙ a.writes_are;
+          grown = (AreBytes-append (bytes_in (given 0)) (file_spelling a.added) there.0 fit, laws.files.frames.file.joined (bytes_in (given 0)) (file_spelling a.added) run.old a.added there.1 (framed, refl));
+          stays_chain = (laws.chains hash check).kept run.old run.offered (run.old ++ a.added) a.verdicts old.1 a.accepted;
         }
 
-    grows : (reply : Reply) → ApplyReply hash check ledger offers first second reply → reply.status ≡ 0 → Grows hash check ledger first second reply
-    grows reply (no_ledger {stop = stop} p is) zero_is = absurd (not_done stop _ (sym (ap (λ (r : Reply). r.status) is) ∙ zero_is))
-    grows reply (no_offers {stop = stop} p q is) zero_is = absurd (not_done stop _ (sym (ap (λ (r : Reply). r.status) is) ∙ zero_is))
-    grows reply (too_long p q past is) zero_is = absurd (not_done (Refusing (refused_size 2)) (file_read ledger ∷ file_read offers ∷ []) (sym (ap (λ (r : Reply). r.status) is) ∙ zero_is))
-    grows reply (done {held = held} {offered = offered} {lines = lines} {writes = writes} p q fits applied is) zero_is =
-        grows_done held offered lines writes reply p q applied (ap (λ (r : Reply). r.lines) is) (ap (λ (r : Reply). r.writes) is)
+    grows_run : (given : Given) (plan : Plan) (reply : Reply) → reply ≡ reply_of plan → ApplyRun hash check ledger offers given plan → reply.status ≡ 0 → Grows hash check ledger (given 0) (given 1) reply
+    grows_run given plan reply same (ran run) at_zero = grows_ran given plan reply same run
+    grows_run given plan reply same (ended_at stop) at_zero = absurd (stop.ends (done_end plan.steps plan.end (sym (ap (λ (r : Reply). r.status) same) ∙ at_zero)))
 
-    stays : (reply : Reply) → ApplyReply hash check ledger offers first second reply → reply.status ≢ 0 → reply.writes ≡ []
-    stays reply (no_ledger {stop = stop} p is) failed = ap (λ (r : Reply). r.writes) is ∙ no_writes stop _
-    stays reply (no_offers {stop = stop} p q is) failed = ap (λ (r : Reply). r.writes) is ∙ no_writes stop _
-    stays reply (too_long p q past is) failed = ap (λ (r : Reply). r.writes) is
-    stays reply (done p q fits applied is) failed = absurd (failed (ap (λ (r : Reply). r.status) is))
+    grows : (given : Given) (reply : Reply) → ApplyReply hash check ledger offers given reply → reply.status ≡ 0 → Grows hash check ledger (given 0) (given 1) reply
+    grows given reply (plan, is, same) at_zero = grows_run given plan reply same (apply_run hash check ledger offers given plan is) at_zero
+
+    stays_run : (given : Given) (plan : Plan) (reply : Reply) → reply ≡ reply_of plan → ApplyRun hash check ledger offers given plan → reply.status ≢ 0 → writes_of reply.steps ≡ []
+    stays_run given plan reply same (ran run) failed = absurd (failed (ap (λ (r : Reply). r.status) (same ∙ ap reply_of run.is)))
+    stays_run given plan reply same (ended_at stop) failed = ap (λ (r : Reply). writes_of r.steps) same ∙ writes_line plan.steps plan.end stop.nothing
+
+    stays : (given : Given) (reply : Reply) → ApplyReply hash check ledger offers given reply → reply.status ≢ 0 → writes_of reply.steps ≡ []
+    stays given reply (plan, is, same) failed = stays_run given plan reply same (apply_run hash check ledger offers given plan is) failed
+
+    -- for what the files hold by their names
+
+    given_of : (contents : List ℕ → Content) (given : Given) (plan : Plan) (reply : Reply) → reply ≡ reply_of plan → Applied hash check ledger offers given plan → GivenBy (Some contents) (reads_of reply.steps) given → (given 0 ≡ contents ledger) × (given 1 ≡ contents offers)
+    given_of contents given plan reply same run agrees =
+        let steps : reply.steps ≡ Read ledger most_bytes ∷ Read offers most_bytes ∷ run.steps = ap (λ (r : Reply). r.steps) (same ∙ ap reply_of run.is) in
+        let at : GivenBy (Some contents) (reads_of (Read ledger most_bytes ∷ Read offers most_bytes ∷ run.steps)) given = subst (λ (ss : List Step). GivenBy (Some contents) (reads_of ss) given) steps agrees in
+        (at.0, at.1.0)
+
+    grows_for : (contents : List ℕ → Content) (reply : Reply) → ApplyFor hash check ledger offers contents reply → reply.status ≡ 0 → Grows hash check ledger (contents ledger) (contents offers) reply
+    grows_for contents reply (given, (plan, is, same), agrees) at_zero = by_run (apply_run hash check ledger offers given plan is)
+      where
+        by_run : ApplyRun hash check ledger offers given plan → Grows hash check ledger (contents ledger) (contents offers) reply
+        by_run (ended_at stop) = absurd (stop.ends (done_end plan.steps plan.end (sym (ap (λ (r : Reply). r.status) same) ∙ at_zero)))
+        by_run (ran run) =
+            (let both = given_of contents given plan reply same run agrees in
+            subst (λ (c : Content). Grows hash check ledger c (contents offers) reply) both.0
+            (subst (λ (c : Content). Grows hash check ledger (given 0) c reply) both.1 (grows_ran given plan reply same run)))
 
 -- ---- what the files hold at the end
 
@@ -157,10 +269,10 @@ ends_none : (ledger : Word) (before : List ℕ → Content) → EndsGrown ledger
 ends_none ledger before = (sym (append-nil (bytes_in (before ledger))), λ name other. refl)
 
 -- one append more in front
-ends_one : (ledger : Word) (block : Block) (added : List Block) (before mid after : List ℕ → Content) → ((name : List ℕ) → ReadsAt (write_of Append ledger (frame_spelling block) true) name (before name) (mid name)) → EndsGrown ledger added mid after → EndsGrown ledger (block ∷ added) before after
+ends_one : (ledger : Word) (block : Block) (added : List Block) (before mid after : List ℕ → Content) → ((name : List ℕ) → ReadsAt (write_of Append ledger (block_frame block) true) name (before name) (mid name)) → EndsGrown ledger added mid after → EndsGrown ledger (block ∷ added) before after
 ends_one ledger block added before mid after reads (front, others) =
-    let now : mid ledger ≡ Some (bytes_in (before ledger) ++ frame_spelling block) = MatchBool-at_true _ _ (same_name ledger) (reads ledger) in (
-      front ∙ ap (λ (c : Content). bytes_in c ++ file_spelling added) now ∙ append_assoc (bytes_in (before ledger)) (frame_spelling block) (file_spelling added),
+    let now : mid ledger ≡ Some (bytes_in (before ledger) ++ block_frame block) = MatchBool-at_true _ _ (same_name ledger) (reads ledger) in (
+      front ∙ ap (λ (c : Content). bytes_in c ++ file_spelling added) now ∙ append_assoc (bytes_in (before ledger)) (block_frame block) (file_spelling added),
       λ name other. others name other ∙ MatchBool-at_false _ _ other (reads name),
     )
 
@@ -170,5 +282,5 @@ ends ledger (block ∷ added) before after (None, gone, rest) = absurd gone
 ends ledger (block ∷ added) before after (Some mid, reads, rest) =
     some_and (EndsGrown ledger added mid) (EndsGrown ledger (block ∷ added) before) after (λ now h. ends_one ledger block added before mid now reads h) (ends ledger added mid after rest)
 
-pub growth_laws : (hash : Hash) (check : Check) → GrowthLaws hash check
-growth_laws hash check = record { grows = grows hash check; stays = stays hash check; ends = ends }
+pub growth_laws : Known → (hash : Hash) (check : Check) → GrowthLaws hash check
+growth_laws laws hash check = record { grows = grows laws hash check; grows_for = grows_for laws hash check; stays = stays laws hash check; ends = ends }

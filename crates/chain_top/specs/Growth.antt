@@ -10,20 +10,24 @@ use Rattle.ledger_core.specs.Chain.{Chain, Accepted}
 use Rattle.outside.specs.Files.{Content, Write, Append, bytes_in, write_of}
 use Rattle.outside.specs.Crash.{IsMoment, MayLeave}
 use Rattle.chain_top.specs.Answer.{GoesOn, done_of}
-use Rattle.chain_top.specs.Frames.{FileReadsAs, frame_spelling, file_spelling}
+use Rattle.chain_top.specs.Plan.{Plan, Given, GivenBy}
+use Rattle.chain_top.specs.Steps.{Line, lines_of, reads_of, writes_of}
+use Rattle.data_model.specs.Files.{BlocksReadAs, block_frame}
+use Rattle.chain_top.specs.Files.{file_spelling}
 use Rattle.chain_top.specs.Line.{accepted_line, refused_block}
-use Rattle.chain_top.specs.Reply.{Hash, Line, Reply, ApplyReply}
+use Rattle.ledger_core.specs.Refusal.{Hash}
+use Rattle.chain_top.specs.Reply.{Reply, reply_of, apply_model}
 use Rattle.chain_top.specs.Word.{Word}
 
 -- a file is there, and reads as these blocks
 abbrev pub HoldsBlocks : Content → List Block → Type 0
 HoldsBlocks None blocks = ⊥
-HoldsBlocks (Some bytes) blocks = AreBytes bytes × FileReadsAs bytes (Ok blocks)
+HoldsBlocks (Some bytes) blocks = AreBytes bytes × BlocksReadAs bytes (Ok blocks)
 
 -- the frames of these blocks appended to the ledger, one after the other, each answered Ok
 abbrev pub appends : Word → List Block → List Write
 appends ledger [] = []
-appends ledger (block ∷ blocks) = write_of Append ledger (frame_spelling block) true ∷ appends ledger blocks
+appends ledger (block ∷ blocks) = write_of Append ledger (block_frame block) true ∷ appends ledger blocks
 
 -- What is printed for offers with these verdicts, where so many blocks were added before: an added block is told once
 -- it is appended.
@@ -49,8 +53,8 @@ pub record Grows (hash : Hash) (check : Check) (ledger : Word) (first second : C
   pub are_offers : HoldsBlocks second offers
   pub is_chain : Chain hash check old
   pub accepted : Accepted hash check old offers (old ++ added) verdicts
-  pub lines : reply.lines ≡ offers_told hash 0 offers verdicts
-  pub writes : reply.writes ≡ appends ledger added
+  pub lines : lines_of reply.steps ≡ offers_told hash 0 offers verdicts
+  pub writes : writes_of reply.steps ≡ appends ledger added
   -- the file then has these blocks and no others, and they are a chain
   pub grown : HoldsBlocks (Some (bytes_in first ++ file_spelling added)) (old ++ added)
   pub stays_chain : Chain hash check (old ++ added)
@@ -66,7 +70,7 @@ EndsGrown ledger added before after =
 -- any string that is no longer than the frame of the first of these blocks, or nothing where there is none
 abbrev pub IsTorn : List Block → List ℕ → Type 0
 IsTorn [] torn = torn ≡ []
-IsTorn (block ∷ blocks) torn = length torn ≤ length (frame_spelling block)
+IsTorn (block ∷ blocks) torn = length torn ≤ length (block_frame block)
 
 -- What a crash leaves of a ledger that had these bytes, while the frames of these blocks were appended and so many
 -- appends had been answered Ok: the bytes, the frames of the first blocks in order, those of the answered appends among
@@ -80,11 +84,23 @@ pub record LeavesFront (bytes : List ℕ) (added : List Block) (answered : ℕ) 
   pub all_answered : answered ≤ length kept
   pub leaves : left ≡ Some (bytes ++ file_spelling kept ++ torn)
 
+-- the replies to `apply`, for what its reads are given
+abbrev pub ApplyReply : Hash → Check → Word → Word → Given → Reply → Type 0
+ApplyReply hash check ledger offers given reply =
+    (plan : Plan) × apply_model hash check ledger offers given plan × (reply ≡ reply_of plan)
+
+-- and for what the files hold by their names
+abbrev pub ApplyFor : Hash → Check → Word → Word → (List ℕ → Content) → Reply → Type 0
+ApplyFor hash check ledger offers contents reply =
+    (given : Given)
+    × ApplyReply hash check ledger offers given reply
+    × GivenBy (Some contents) (reads_of reply.steps) given
+
 -- A crash comes at a moment of a run of `apply` that has this reply; `seen` is what had been begun then.
 pub record ApplyCrash (hash : Hash) (check : Check) (ledger offers : Word) (before : List ℕ → Content)
     (reply : Reply) (begun seen : List Write) (left : List ℕ → Content) : Type 0 where
-  pub is_reply : ApplyReply hash check ledger offers (before ledger) (before offers) reply
-  pub begins : IsMoment reply.writes begun
+  pub is_reply : ApplyFor hash check ledger offers before reply
+  pub begins : IsMoment (writes_of reply.steps) begun
   pub comes : IsMoment begun seen
   pub leaves : (name : List ℕ) → MayLeave name (before name) seen (left name)
 
@@ -93,16 +109,21 @@ pub record ApplyCrash (hash : Hash) (check : Check) (ledger offers : Word) (befo
 pub record GrowthLaws (hash : Hash) (check : Check) : Type 0 where
   -- where the run is done, the ledger grows by exactly the accepted blocks
   pub grows :
-      (ledger offers : Word) (first second : Content) (reply : Reply)
-      → ApplyReply hash check ledger offers first second reply
+      (ledger offers : Word) (given : Given) (reply : Reply)
+      → ApplyReply hash check ledger offers given reply
       → reply.status ≡ 0
-      → Grows hash check ledger first second reply
+      → Grows hash check ledger (given 0) (given 1) reply
+  pub grows_for :
+      (ledger offers : Word) (contents : List ℕ → Content) (reply : Reply)
+      → ApplyFor hash check ledger offers contents reply
+      → reply.status ≡ 0
+      → Grows hash check ledger (contents ledger) (contents offers) reply
   -- and else nothing is written
   pub stays :
-      (ledger offers : Word) (first second : Content) (reply : Reply)
-      → ApplyReply hash check ledger offers first second reply
+      (ledger offers : Word) (given : Given) (reply : Reply)
+      → ApplyReply hash check ledger offers given reply
       → reply.status ≢ 0
-      → reply.writes ≡ []
+      → writes_of reply.steps ≡ []
   -- what the files hold at the end
   pub ends :
       (ledger : Word) (added : List Block) (before : List ℕ → Content) (after : Option (List ℕ → Content))

@@ -1,27 +1,30 @@
 -- What a call comes to over files that tell what they hold, where no call on them or on the sink failed.
-use Rattle.std.specs.Prelude.{◌≡◌, ◌⊎◌, ℕ, List, [], ◌∷◌, Some, Ok, IsSomeAnd}
+use Rattle.std.specs.Prelude.{◌≡◌, ◌⊎◌, ℕ, ◌≤◌, List, [], ◌∷◌, length, Some, Ok, IsSomeAnd}
 use Rattle.data_model.specs.declared.block.Block.{Block}
+use Rattle.ledger_core.specs.Refusal.{Hash}
 use Rattle.vm_run.specs.Row.{Check}
 use Rattle.outside.specs.Files.{Content}
-use Rattle.chain_top.specs.Answer.{World}
+use Rattle.outside.specs.Steps.{Read}
+use Rattle.outside.specs.World.{World}
 use Rattle.chain_top.specs.Command.{Command, Vm, Init, Apply, command_of}
 use Rattle.chain_top.specs.Growth.{Grows, EndsGrown}
 use Rattle.chain_top.specs.Line.{refused_hex, refused_size}
-use Rattle.chain_top.specs.Loading.{Refusing, file_read, BlocksOf, LedgerOf}
-use Rattle.chain_top.specs.Reply.{Hash, Reply, told, stopped, IsReply}
-use Rattle.chain_top.specs.Whole.{NoneFailed, IsWhole, held_by}
+use Rattle.chain_top.specs.Loading.{most_bytes, LedgerOf, BlocksOf}
+use Rattle.chain_top.specs.Plan.{Refused}
+use Rattle.chain_top.specs.Reply.{Choice, Reply, ended, ReplyFor}
+use Rattle.chain_top.specs.Whole.{NoneFailed, IsWhole}
 use Rattle.chain_top.specs.Word.{Word}
 
 -- ---- the whole reply
 
 -- The call does all of the model's reply to the words, for what the files hold, or ends for want of memory.
-abbrev pub DoesReply : Hash → Check → List Word → World → World → ℕ → Type 0
-DoesReply hash check words before after status =
+abbrev pub DoesReply : Hash → Check → List Word → Choice → World → World → ℕ → Type 0
+DoesReply hash check words choice before after status =
     (contents : List ℕ → Content)
     → before.contents ≡ Some contents
     → NoneFailed before after
     → (reply : Reply)
-    × IsReply hash check words (held_by contents words) reply
+    × ReplyFor hash check words choice contents reply
     × (IsWhole reply before after status ⊎ (status ≡ 5))
 
 -- ---- growth
@@ -46,20 +49,26 @@ GrowsLedger hash check words before after status =
 
 -- ---- completeness
 
+-- a file is there and within the size
+abbrev pub HasFile : Content → List ℕ → Type 0
+HasFile content bytes = (content ≡ Some bytes) × (length bytes ≤ most_bytes)
+
 -- The files that a command reads are within their size and read by their formats, and its ledger is a chain.
 abbrev pub FilesRead : Hash → Check → Command → (List ℕ → Content) → Type 0
 FilesRead hash check (Vm limit program args) contents = Unit {0}
 FilesRead hash check (Init ledger time program) contents = Unit {0}
 FilesRead hash check (Apply ledger offers) contents =
-    ((held : List Block × ℕ) × LedgerOf hash check (contents ledger) (Ok held))
-    × ((offered : List Block × ℕ) × BlocksOf 2 (contents offers) (Ok offered))
+    ((bytes : List ℕ)
+    × HasFile (contents ledger) bytes
+    × ((blocks : List Block) × LedgerOf hash check 1 bytes (Ok blocks)))
+    × ((bytes : List ℕ) × HasFile (contents offers) bytes × ((blocks : List Block) × BlocksOf 2 bytes (Ok blocks)))
 
 -- the refusals of a command's own list: a hex word that is none; both files of `apply` together too long
 abbrev pub OwnRefusal : Command → Reply → Type 0
-OwnRefusal (Vm limit program args) reply = (place : ℕ) × (reply ≡ told 2 (refused_hex place))
-OwnRefusal (Init ledger time program) reply = reply ≡ told 2 (refused_hex 3)
+OwnRefusal (Vm limit program args) reply = (place : ℕ) × (reply ≡ ended [] (Refused (refused_hex place)))
+OwnRefusal (Init ledger time program) reply = reply ≡ ended [] (Refused (refused_hex 3))
 OwnRefusal (Apply ledger offers) reply =
-    reply ≡ stopped (Refusing (refused_size 2)) (file_read ledger ∷ file_read offers ∷ [])
+    reply ≡ ended (Read ledger most_bytes ∷ Read offers most_bytes ∷ []) (Refused (refused_size 2))
 
 -- Words in the grammar over files that are read give status 0, a refusal of the command's own list, or want of memory.
 abbrev pub IsComplete : Hash → Check → List Word → World → World → ℕ → Type 0

@@ -11,7 +11,7 @@ use Rattle.ledger_core.specs.declared.refusal.StartFault.TheVariants.{NotEmpty, 
 use Rattle.ledger_core.specs.declared.refusal.StartFault.TheVariants as starts
 use Rattle.ledger_core.specs.declared.refusal.BlockRefusal.{BlockRefusal}
 use Rattle.ledger_core.specs.declared.refusal.BlockRefusal.TheVariants.{B1, B2, B3, B4, B5, B6, B7, B9}
-use Rattle.chain_top.specs.Frames.{kind_name}
+use Rattle.wire.specs.Kinds.{kind_name}
 
 abbrev pub newline : List ℕ
 newline = 10 ∷ []
@@ -49,14 +49,11 @@ abbrev pub refused_size : ℕ → List ℕ
 refused_size place = codes "refused size " ++ decimal place ++ newline
 
 -- `refused file K I AT KIND`
-abbrev pub refused_file_of : ℕ → ℕ → ℕ → List ℕ → List ℕ
-refused_file_of place index at kind =
+abbrev pub refused_file : ℕ → ℕ → ℕ → DataKind → List ℕ
+refused_file place index at kind =
     codes "refused file "
     ++ (decimal place
-    ++ (codes " " ++ (decimal index ++ (codes " " ++ (decimal at ++ (codes " " ++ (kind ++ newline)))))))
-
-abbrev pub refused_file : ℕ → ℕ → ℕ → DataKind → List ℕ
-refused_file place index at kind = refused_file_of place index at (kind_name kind)
+    ++ (codes " " ++ (decimal index ++ (codes " " ++ (decimal at ++ (codes " " ++ (kind_name kind ++ newline)))))))
 
 -- why a block starts no chain
 abbrev pub start_words : StartFault → List ℕ

@@ -1,85 +1,77 @@
--- What the files of blocks are that a command reads.
-use Rattle.std.specs.Prelude.{◌≡◌, ℕ, ◌<◌, ◌≤◌, List, [], ◌∷◌, ◌++◌, length, Some, None, Result, Ok, Err}
+-- What files of blocks read as, and the ledgers that they hold.
+use Rattle.std.specs.Prelude.{◌≡◌, ℕ, ◌+◌, ◌<◌, ◌≤◌, List, [], ◌∷◌, ◌++◌, length, Some, Result, Ok, Err}
 use Rattle.data_model.specs.declared.block.Block.{Block}
 use Rattle.wire.specs.declared.fault.DataKind.TheVariants.{Count}
 use Rattle.vm_run.specs.Row.{Check}
-use Rattle.wire.specs.Spelling.{AreBytes}
 use Rattle.ledger_core.specs.declared.refusal.BlockRefusal.{BlockRefusal}
 use Rattle.ledger_core.specs.declared.refusal.StartFault.{StartFault}
-use Rattle.ledger_core.specs.Start.{StartRefusal}
 use Rattle.ledger_core.specs.Refusal.{Hash, Refusal}
+use Rattle.ledger_core.specs.Start.{StartRefusal}
 use Rattle.ledger_core.specs.Chain.{Chain}
-use Rattle.outside.specs.Files.{Content, Read}
-use Rattle.chain_top.specs.Frames.{FileFault, FirstFileFault, FileReadsAs}
+use Rattle.chain_top.specs.declared.load.LoadFault.{LoadFault}
+use Rattle.chain_top.specs.declared.load.LoadFault.TheVariants as faults
+use Rattle.chain_top.specs.Asking.{lined}
+use Rattle.wire.specs.Files.{FileFault}
+use Rattle.data_model.specs.Files.{BlocksReadAs}
 use Rattle.chain_top.specs.Line.{refused_size, refused_file, refused_ledger, start_words, refusal_words}
-use Rattle.chain_top.specs.Word.{Word}
 
--- why a command ends at a file
-pub data Stop : Type 0 where
-  -- there is none
-  Missing : Stop
-  -- it is refused by this line
-  Refusing : (line : List ℕ) → Stop
-
--- the most bytes of a file
+-- the most bytes of a file, and of the two files of `apply` together
 abbrev pub most_bytes : ℕ
 most_bytes = 67108864
 
--- a read of a file
-abbrev pub file_read : Word → Read
-file_read name = record { name = name; most = most_bytes }
-
--- the bytes of the file that the word at this place names
-pub data BytesOf (place : ℕ) : Content → Result (List ℕ) Stop → Type 0 where
-  missing : BytesOf place None (Err Missing)
-  long : {bytes : List ℕ} → most_bytes < length bytes → BytesOf place (Some bytes) (Err (Refusing (refused_size place)))
-  read : {bytes : List ℕ} → length bytes ≤ most_bytes → BytesOf place (Some bytes) (Ok bytes)
-
--- the blocks of such a file, and its length
-pub data BlocksOf (place : ℕ) (content : Content) : Result (List Block × ℕ) Stop → Type 0 where
-  stopped : {stop : Stop} → BytesOf place content (Err stop) → BlocksOf place content (Err stop)
+-- The blocks of a ledger's file, which are a chain, or the file's fault: of its frames, of its first block, or of the
+-- first later block that does not extend those before it.
+pub data LoadsAs (hash : Hash) (check : Check) (bytes : List ℕ) : Result (List Block) LoadFault → Type 0 where
+  -- it has no frame
+  empty : bytes ≡ [] → LoadsAs hash check bytes (Err (faults.Frame 0 0 Count))
   -- it does not read as frames
-  fault :
-      {bytes : List ℕ} {fault : FileFault}
-      → BytesOf place content (Ok bytes)
-      → AreBytes bytes
-      → FirstFileFault bytes fault
-      → BlocksOf place content (Err (Refusing (refused_file place fault.index fault.at fault.kind)))
-  blocks :
-      {bytes : List ℕ} {blocks : List Block}
-      → BytesOf place content (Ok bytes)
-      → AreBytes bytes
-      → FileReadsAs bytes (Ok blocks)
-      → BlocksOf place content (Ok (blocks, length bytes))
-
--- these blocks are no chain, and this line says why
-pub data NoChain (hash : Hash) (check : Check) (blocks : List Block) : List ℕ → Type 0 where
-  -- the ledger has no frame
-  empty : blocks ≡ [] → NoChain hash check blocks (refused_file 1 0 0 Count)
-  -- the first block starts none
+  no_frames :
+      {fault : FileFault}
+      → BlocksReadAs bytes (Err fault)
+      → LoadsAs hash check bytes (Err (faults.Frame fault.index fault.at fault.kind))
+  -- the first block starts no chain
   no_start :
-      (initial : Block) (later : List Block) (fault : StartFault)
-      → blocks ≡ initial ∷ later
-      → StartRefusal hash initial (Some fault)
-      → NoChain hash check blocks (refused_ledger 0 (start_words fault))
+      (initial : Block) (later : List Block) {why : StartFault}
+      → BlocksReadAs bytes (Ok (initial ∷ later))
+      → StartRefusal hash initial (Some why)
+      → LoadsAs hash check bytes (Err (faults.Start why))
   -- a later one does not extend those before it
   no_next :
-      (before : List Block) (block : Block) (later : List Block) (line : BlockRefusal)
-      → blocks ≡ before ++ block ∷ later
+      (before : List Block) (block : Block) (later : List Block) {why : BlockRefusal}
+      → BlocksReadAs bytes (Ok (before ++ block ∷ later))
       → Chain hash check before
-      → Refusal hash check before block (Some line)
-      → NoChain hash check blocks (refused_ledger (length before) (refusal_words line))
-
--- the chain of a ledger, and its file's length
-pub data LedgerOf (hash : Hash) (check : Check) (content : Content) : Result (List Block × ℕ) Stop → Type 0 where
-  ledger_stopped : {stop : Stop} → BlocksOf 1 content (Err stop) → LedgerOf hash check content (Err stop)
-  no_chain :
-      {blocks : List Block} {len : ℕ} {line : List ℕ}
-      → BlocksOf 1 content (Ok (blocks, len))
-      → NoChain hash check blocks line
-      → LedgerOf hash check content (Err (Refusing line))
+      → Refusal hash check before block (Some why)
+      → LoadsAs hash check bytes (Err (faults.Block (length before) why))
   chain :
-      {blocks : List Block} {len : ℕ}
-      → BlocksOf 1 content (Ok (blocks, len))
+      {blocks : List Block}
+      → BlocksReadAs bytes (Ok blocks)
       → Chain hash check blocks
-      → LedgerOf hash check content (Ok (blocks, len))
+      → LoadsAs hash check bytes (Ok blocks)
+
+-- ---- lines
+
+-- how a fault is told of the file of blocks that the word at this place names
+abbrev pub file_line : ℕ → FileFault → List ℕ
+file_line place fault = refused_file place fault.index fault.at fault.kind
+
+-- and of the ledger that this word names; want of memory is not told
+abbrev pub load_line : ℕ → LoadFault → List ℕ
+load_line place (faults.Frame index at kind) = refused_file place index at kind
+load_line place (faults.Start why) = refused_ledger 0 (start_words why)
+load_line place (faults.Block index why) = refused_ledger index (refusal_words why)
+load_line place faults.NoMemory = []
+
+-- ---- what a command checks
+
+-- the chain of the ledger that the word at this place names, or the line that refuses it
+abbrev pub LedgerOf : Hash → Check → ℕ → List ℕ → Result (List Block) (List ℕ) → Type 0
+LedgerOf hash check place bytes = lined (load_line place) (LoadsAs hash check bytes)
+
+-- the blocks of the file that the word at this place names, or the line that refuses it
+abbrev pub BlocksOf : ℕ → List ℕ → Result (List Block) (List ℕ) → Type 0
+BlocksOf place bytes = lined (file_line place) (BlocksReadAs bytes)
+
+-- two files of these bytes are together within the size of one, or the line that refuses the second
+abbrev pub FitsWith : ℕ → List ℕ → List ℕ → Result (Unit {0}) (List ℕ) → Type 0
+FitsWith place first second (Ok u) = length first + length second ≤ most_bytes
+FitsWith place first second (Err line) = (most_bytes < length first + length second) × (line ≡ refused_size place)

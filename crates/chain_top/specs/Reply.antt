@@ -1,182 +1,130 @@
 -- What a call of the program answers: the model.
-use Rattle.std.specs.Prelude.{◌≡◌, ℕ, ◌+◌, ◌<◌, ◌≤◌, List, [], ◌∷◌, ◌++◌, length, Option, Some, None, Ok, Err, true}
-use Rattle.outside.specs.Bytes.{HoldsBytes}
-use Rattle.outside.specs.Files.{Content, Read, Write, Append, Replace, write_of}
-use Rattle.vm_num.specs.Item.{Item}
-use Rattle.vm_run.specs.declared.verdict.Verdict.{Verdict}
-use Rattle.vm_run.specs.Row.{Check}
-use Rattle.vm_run.specs.declared.context.Context.TheVariants.{Nothing}
-use Rattle.vm_run.specs.Verdict.{HasVerdict}
-use Rattle.chain_top.specs.Word.{Word, hex_of, hex_words}
-use Rattle.chain_top.specs.Command.{Command, Vm, Init, Apply, command_of}
-use Rattle.chain_top.specs.Line.{usage_line, refused_hex, refused_size, refused_block, verdict_line, block_line}
-use Rattle.chain_top.specs.Line.{accepted_line}
-use Rattle.chain_top.specs.Frames.{frame_spelling}
-use Rattle.chain_top.specs.Initial.{initial_block}
-use Rattle.chain_top.specs.Loading.{Stop, Missing, Refusing, most_bytes, file_read, BlocksOf, LedgerOf}
+use Rattle.std.specs.Prelude.{◌≡◌, ℕ, List, [], ◌∷◌, ◌++◌, Option, Some, None, Result, Ok, Err}
 use Rattle.data_model.specs.declared.block.Block.{Block}
 use Rattle.entry_ids.specs.Entry.{header_id}
-use Rattle.ledger_core.specs.declared.refusal.BlockRefusal.{BlockRefusal}
-use Rattle.ledger_core.specs.Refusal.{Refusal, ValidNext}
+use Rattle.ledger_core.specs.Refusal.{Hash}
+use Rattle.outside.specs.Files.{Content, Replace}
+use Rattle.outside.specs.Steps.{Step, Write, Print}
+use Rattle.vm_num.specs.Item.{Item}
+use Rattle.vm_run.specs.Row.{Check}
+use Rattle.vm_run.specs.declared.context.Context.TheVariants.{Nothing}
+use Rattle.vm_run.specs.declared.verdict.Verdict.{Verdict}
+use Rattle.vm_run.specs.Verdict.{HasVerdict}
+use Rattle.chain_top.specs.Asking.{asks, checks}
+use Rattle.chain_top.specs.Command.{Command, Vm, Init, Apply, command_of}
+use Rattle.data_model.specs.Files.{block_frame}
+use Rattle.chain_top.specs.Initial.{initial_block}
+use Rattle.chain_top.specs.Line.{usage_line, refused_hex, verdict_line, block_line}
+use Rattle.chain_top.specs.Loading.{most_bytes, LedgerOf, BlocksOf, FitsWith}
+use Rattle.chain_top.specs.Offers.{offers_model}
+use Rattle.chain_top.specs.Plan.{End, Done, Refused, Missing, Plan, done, Given, GivenBy}
+use Rattle.chain_top.specs.Steps.{reads_of}
+use Rattle.chain_top.specs.Word.{Word, hex_of, hex_words}
 
--- a hash, as a function of bytes
-abbrev pub Hash : Type 0
-Hash = List ℕ → List ℕ
-
--- a printed line, and how many writes to files come before it
-pub record Line : Type 0 where
-  pub text : List ℕ
-  pub after : ℕ
-
--- the status, the printed lines, the reads and the writes, each in order
+-- The status, and what is read, written and printed, in order. The printed lines with the number of writes before each,
+-- the reads and the writes are `lines_of`, `reads_of` and `writes_of` of the steps.
 pub record Reply : Type 0 where
   pub status : ℕ
-  pub lines : List Line
-  pub reads : List Read
-  pub writes : List Write
+  pub steps : List Step
 
--- a reply that touches no file and prints one line
-abbrev pub told : ℕ → List ℕ → Reply
-told status text = record { status = status; lines = record { text = text; after = 0 } ∷ []; reads = []; writes = [] }
+-- what the compiler gave for one contract: its body, and the bounds of its clauses
+pub record Compiled : Type 0 where
+  pub body : List ℕ
+  pub bounds : List ℕ
 
--- what the file holds that a word names, by the word's place
-abbrev pub Given : Type 0
-Given = ℕ → Content
+-- what it gave for the contracts of a source, which a command that prints it goes by
+abbrev pub Choice : Type 0
+Choice = List Compiled
 
--- each of these files holds bytes alone
-abbrev pub AreGivenBytes : Given → Type 0
-AreGivenBytes given = (place : ℕ) → HoldsBytes (given place)
+-- ---- the commands
 
--- a line that tells the verdict on a program with no context, and its status
-abbrev pub TellsVerdict : Check → ℕ → Item → List Item → ℕ → List ℕ → Type 0
-TellsVerdict check limit code items status text =
-    (verdict : Verdict)
-    × HasVerdict Nothing check code items limit verdict
-    × (status ≡ 0)
-    × (text ≡ verdict_line verdict)
+-- a program, run with no context on arguments: the line of its verdict, or the first word that is no hex word
+pub data VmLine (check : Check) (limit : ℕ) (program : Word) (args : List Word) : Result (List ℕ) (List ℕ) → Type 0
+  where
+    misfit :
+        {place : ℕ}
+        → hex_words 2 (program ∷ args) ≡ Err place
+        → VmLine check limit program args (Err (refused_hex place))
+    ran :
+        (code : Item) (items : List Item) {verdict : Verdict}
+        → hex_words 2 (program ∷ args) ≡ Ok (code ∷ items)
+        → HasVerdict Nothing check code items limit verdict
+        → VmLine check limit program args (Ok (verdict_line verdict))
 
--- the replies to `vm`
-pub data VmReply (check : Check) (limit : ℕ) (program : Word) (args : List Word) (reply : Reply) : Type 0 where
-  -- the program or an argument is no hex word: the first of them
-  misfit :
-      {place : ℕ}
-      → hex_words 2 (program ∷ args) ≡ Err place
-      → reply ≡ told 2 (refused_hex place)
-      → VmReply check limit program args reply
-  -- the program is run with no context on its arguments
-  ran :
-      {code : Item} {items : List Item} {status : ℕ} {text : List ℕ}
-      → hex_words 2 (program ∷ args) ≡ Ok (code ∷ items)
-      → TellsVerdict check limit code items status text
-      → reply ≡ told status text
-      → VmReply check limit program args reply
+-- `vm LIMIT PROGRAM [ARG]...`
+abbrev pub vm_model : Check → ℕ → Word → List Word → Given → Plan → Type 0
+vm_model check limit program args =
+    checks (VmLine check limit program args) (λ line given plan. plan ≡ done (Print line ∷ []))
 
--- a reply that sets a file and then prints one line
-abbrev pub set_and_told : Word → List ℕ → List ℕ → Reply
-set_and_told name bytes text =
-    record {
-      status = 0;
-      lines = record { text = text; after = 1 } ∷ [];
-      reads = [];
-      writes = write_of Replace name bytes true ∷ [];
-    }
+-- the bytes of the hex word at this place, or its refusal
+abbrev pub HexOf : ℕ → Word → Result (List ℕ) (List ℕ) → Type 0
+HexOf place word (Ok bytes) = hex_of word ≡ Some bytes
+HexOf place word (Err line) = (hex_of word ≡ None) × (line ≡ refused_hex place)
 
--- the replies to `init`
-pub data InitReply (hash : Hash) (ledger : Word) (time : ℕ) (program : Word) (reply : Reply) : Type 0 where
-  -- the program is no hex word
-  misfit : None ≡ hex_of program → reply ≡ told 2 (refused_hex 3) → InitReply hash ledger time program reply
-  -- the ledger is one frame, the initial block
-  made :
-      {code : Item}
-      → Some code ≡ hex_of program
-      → reply
-      ≡ set_and_told ledger (frame_spelling (initial_block hash time code))
-      (block_line 1 (header_id hash (initial_block hash time code).header))
-      → InitReply hash ledger time program reply
+-- the ledger is set to one frame, its initial block, which is then told
+abbrev pub init_steps : Hash → Word → Block → List Step
+init_steps hash ledger block =
+    Write Replace ledger (block_frame block) ∷ Print (block_line 1 (header_id hash block.header)) ∷ []
 
--- a reply that prints one line once its writes are done
-abbrev pub one_line : ℕ → List ℕ → List Read → List Write → Reply
-one_line status text reads writes =
-    record {
-      status = status;
-      lines = record { text = text; after = length writes } ∷ [];
-      reads = reads;
-      writes = writes;
-    }
+-- `init LEDGER TIME PROGRAM`
+abbrev pub init_model : Hash → Word → ℕ → Word → Given → Plan → Type 0
+init_model hash ledger time program =
+    checks (HexOf 3 program) (λ code given plan. plan ≡ done (init_steps hash ledger (initial_block hash time code)))
 
--- a reply that ends at a file, after these reads
-abbrev pub stopped : Stop → List Read → Reply
-stopped Missing reads = record { status = 3; lines = []; reads = reads; writes = [] }
-stopped (Refusing line) reads = one_line 2 line reads []
+-- The blocks of the file of offers, which has these last bytes, are offered to these blocks of the ledger, whose file
+-- has those first bytes.
+abbrev pub offered_model : Hash → Check → Word → List ℕ → List Block → List ℕ → Given → Plan → Type 0
+offered_model hash check ledger held blocks bytes =
+    checks (BlocksOf 2 bytes)
+    (λ offered. checks (FitsWith 2 held bytes) (λ fits. offers_model hash check ledger blocks offered))
 
--- What a block tells that is offered after these blocks: the blocks after it, its line, and what is written to the
--- ledger before that line.
-pub data OfferTells (hash : Hash) (check : Check) (ledger : Word) (blocks : List Block) (block : Block)
-    : List Block → List ℕ → List Write → Type 0 where
-  accepted :
-      ValidNext hash check blocks block
-      → OfferTells hash check ledger blocks block (blocks ++ block ∷ [])
-      (accepted_line block.header.height (header_id hash block.header))
-      (write_of Append ledger (frame_spelling block) true ∷ [])
-  refused :
-      {line : BlockRefusal}
-      → Refusal hash check blocks block (Some line)
-      → OfferTells hash check ledger blocks block blocks (refused_block line) []
+-- the file of offers is read
+abbrev pub offer_file_model : Hash → Check → Word → Word → List ℕ → List Block → Given → Plan → Type 0
+offer_file_model hash check ledger offers held blocks =
+    asks offers most_bytes 2 (offered_model hash check ledger held blocks)
 
--- The lines and the writes for blocks that are offered one after the other, where so many writes come before them.
-pub data Applied (hash : Hash) (check : Check) (ledger : Word)
-    : List Block → List Block → ℕ → List Line → List Write → Type 0 where
-  none : {blocks : List Block} {before : ℕ} → Applied hash check ledger blocks [] before [] []
-  next :
-      {blocks after offers : List Block} {block : Block} {before : ℕ} {text : List ℕ} {lines : List Line}
-      {writes later : List Write}
-      → OfferTells hash check ledger blocks block after text writes
-      → Applied hash check ledger after offers (before + length writes) lines later
-      → Applied hash check ledger blocks (block ∷ offers) before
-      (record { text = text; after = before + length writes } ∷ lines) (writes ++ later)
+-- the ledger's file, of these bytes, is a chain
+abbrev pub ledger_model : Hash → Check → Word → Word → List ℕ → Given → Plan → Type 0
+ledger_model hash check ledger offers held =
+    checks (LedgerOf hash check 1 held) (λ blocks. offer_file_model hash check ledger offers held blocks)
 
--- the replies to `apply`, by what the two files hold
-pub data ApplyReply (hash : Hash) (check : Check) (ledger offers : Word) (first second : Content) (reply : Reply)
-    : Type 0 where
-  -- the ledger's file is missing or refused
-  no_ledger :
-      {stop : Stop}
-      → LedgerOf hash check first (Err stop)
-      → reply ≡ stopped stop (file_read ledger ∷ [])
-      → ApplyReply hash check ledger offers first second reply
-  -- the offers' file is
-  no_offers :
-      {held : List Block × ℕ} {stop : Stop}
-      → LedgerOf hash check first (Ok held)
-      → BlocksOf 2 second (Err stop)
-      → reply ≡ stopped stop (file_read ledger ∷ file_read offers ∷ [])
-      → ApplyReply hash check ledger offers first second reply
-  -- both files together are too long
-  too_long :
-      {held offered : List Block × ℕ}
-      → LedgerOf hash check first (Ok held)
-      → BlocksOf 2 second (Ok offered)
-      → most_bytes < held.1 + offered.1
-      → reply ≡ stopped (Refusing (refused_size 2)) (file_read ledger ∷ file_read offers ∷ [])
-      → ApplyReply hash check ledger offers first second reply
-  -- the blocks are offered
-  done :
-      {held offered : List Block × ℕ} {lines : List Line} {writes : List Write}
-      → LedgerOf hash check first (Ok held)
-      → BlocksOf 2 second (Ok offered)
-      → held.1 + offered.1 ≤ most_bytes
-      → Applied hash check ledger held.0 offered.0 0 lines writes
-      → reply ≡ record { status = 0; lines = lines; reads = file_read ledger ∷ file_read offers ∷ []; writes = writes }
-      → ApplyReply hash check ledger offers first second reply
+-- `apply LEDGER OFFERS`
+abbrev pub apply_model : Hash → Check → Word → Word → Given → Plan → Type 0
+apply_model hash check ledger offers = asks ledger most_bytes 1 (ledger_model hash check ledger offers)
 
--- the replies to a command, or to words that are none
-abbrev pub CommandReply : Hash → Check → Option Command → Given → Reply → Type 0
-CommandReply hash check None given reply = reply ≡ told 1 usage_line
-CommandReply hash check (Some (Vm limit program args)) given reply = VmReply check limit program args reply
-CommandReply hash check (Some (Init ledger time program)) given reply = InitReply hash ledger time program reply
-CommandReply hash check (Some (Apply ledger offers)) given reply =
-    ApplyReply hash check ledger offers (given 1) (given 2) reply
+abbrev pub model_of : Hash → Check → Choice → Command → Given → Plan → Type 0
+model_of hash check choice (Vm limit program args) = vm_model check limit program args
+model_of hash check choice (Init ledger time program) = init_model hash ledger time program
+model_of hash check choice (Apply ledger offers) = apply_model hash check ledger offers
+
+-- ---- replies
+
+-- a refusal is told by its line, and a missing file by the status
+abbrev pub ended : List Step → End → Reply
+ended steps Done = record { status = 0; steps = steps }
+ended steps (Refused line) = record { status = 2; steps = steps ++ Print line ∷ [] }
+ended steps Missing = record { status = 3; steps = steps }
+
+abbrev pub reply_of : Plan → Reply
+reply_of plan = ended plan.steps plan.end
+
+-- the reply to words outside the grammar
+abbrev pub usage_reply : Reply
+usage_reply = record { status = 1; steps = Print usage_line ∷ [] }
+
+-- the replies to a command, or to words that are none, for what the files hold by the numbers of the reads
+abbrev pub CommandReply : Hash → Check → Choice → Option Command → Given → Reply → Type 0
+CommandReply hash check choice None given reply = reply ≡ usage_reply
+CommandReply hash check choice (Some command) given reply =
+    (plan : Plan) × model_of hash check choice command given plan × (reply ≡ reply_of plan)
 
 -- the replies to words
-abbrev pub IsReply : Hash → Check → List Word → Given → Reply → Type 0
-IsReply hash check words given reply = CommandReply hash check (command_of words) given reply
+abbrev pub IsReply : Hash → Check → List Word → Choice → Given → Reply → Type 0
+IsReply hash check words choice given reply = CommandReply hash check choice (command_of words) given reply
+
+-- the same for what the files hold by their names
+abbrev pub ReplyFor : Hash → Check → List Word → Choice → (List ℕ → Content) → Reply → Type 0
+ReplyFor hash check words choice contents reply =
+    (given : Given)
+    × IsReply hash check words choice given reply
+    × GivenBy (Some contents) (reads_of reply.steps) given

@@ -1,8 +1,7 @@
 -- What a contract sees of a command that was read.
-use Rattle.std.specs.Prelude.{◌≡◌, ◌≤◌, List, [], get_or, Option, Some, None, map, string_bytes}
+use Rattle.std.specs.Prelude.{◌≤◌, Option, Some, None, map, string_bytes}
 use Rattle.chain_top.specs.declared.command.Command.{Command as RustCommand}
 use Rattle.chain_top.specs.declared.command.Command.TheVariants as rust
-use Rattle.chain_top.specs.Word.{Word}
 use Rattle.chain_top.specs.Command.{Command, Vm, Init, Apply, limit_most, decimal_most}
 
 abbrev pub seen : RustCommand → Command
@@ -20,10 +19,3 @@ HasLimit None = Unit {0}
 HasLimit (Some (rust.Vm limit program args)) = limit ≤ limit_most
 HasLimit (Some (rust.Init ledger time program)) = time ≤ decimal_most
 HasLimit (Some (rust.Apply ledger offers)) = Unit {0}
-
--- the words at these places are the names of the files that a command reads
-abbrev pub Names : List Word → RustCommand → Type 0
-Names words (rust.Vm limit program args) = Unit {0}
-Names words (rust.Init ledger time program) = Unit {0}
-Names words (rust.Apply ledger offers) =
-    (get_or words 1 [] ≡ string_bytes ledger.now) × (get_or words 2 [] ≡ string_bytes offers.now)

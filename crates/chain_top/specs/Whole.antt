@@ -1,11 +1,16 @@
 -- What a call comes to where nothing failed: all of the model's reply, or want of memory.
-use Rattle.std.specs.Prelude.{◌≡◌, ◌⊎◌, ◌↔◌, ℕ, List, [], get_or, Some, None}
+use Rattle.std.specs.Prelude.{◌≡◌, ◌⊎◌, ◌↔◌, ℕ, List, Some, None}
 use Rattle.vm_run.specs.Row.{Check}
+use Rattle.ledger_core.specs.Refusal.{Hash}
+use Rattle.outside.specs.Bytes.{HoldsBytes}
 use Rattle.outside.specs.Fault.{Rose}
 use Rattle.outside.specs.Files.{Content}
-use Rattle.chain_top.specs.Answer.{World, Did, Answers, HasCauses, text_of}
+use Rattle.outside.specs.World.{World}
+use Rattle.chain_top.specs.Answer.{Answers, GoesBy, HasCauses}
 use Rattle.chain_top.specs.Command.{command_of}
-use Rattle.chain_top.specs.Reply.{Hash, Given, Reply, IsReply}
+use Rattle.chain_top.specs.Plan.{Given, AreBytesGiven}
+use Rattle.chain_top.specs.Reply.{Choice, Reply, IsReply, ReplyFor}
+use Rattle.chain_top.specs.Steps.{all_of, Did}
 use Rattle.chain_top.specs.Word.{Word}
 
 -- no call on the files or on the sink failed
@@ -14,30 +19,64 @@ pub record NoneFailed (before after : World) : Type 0 where
   pub writes : ¬ Rose before.write_faults after.write_faults
   pub sink : ¬ Rose before.sink_faults after.sink_faults
 
--- what the files hold under the words, by the places of the words
-abbrev pub held_by : (List ℕ → Content) → List Word → Given
-held_by contents words = λ place. contents (get_or words place [])
-
--- the status, the printed bytes, the reads and the writes are those of the reply, and nothing else was done
+-- the status is that of the reply, and its steps were all done, in order, and nothing else
 pub record IsWhole (reply : Reply) (before after : World) (status : ℕ) : Type 0 where
   pub status_is : status ≡ reply.status
-  pub did : Did before after (text_of reply.lines) reply.reads reply.writes
+  pub did : Did (all_of reply.steps) before after
 
 -- ---- laws
+
+-- the model gives one reply
+pub record ReplyLaws (hash : Hash) (check : Check) : Type 0 where
+  -- to all words, whatever bytes the reads are given
+  pub some :
+      (words : List Word) (choice : Choice) (given : Given)
+      → AreBytesGiven given
+      → (reply : Reply) × IsReply hash check words choice given reply
+  -- and no two
+  pub one :
+      (words : List Word) (choice : Choice) (given : Given) (a b : Reply)
+      → IsReply hash check words choice given a
+      → IsReply hash check words choice given b
+      → a ≡ b
+  -- the same for what the files hold by their names
+  pub some_for :
+      (words : List Word) (choice : Choice) (contents : List ℕ → Content)
+      → ((name : List ℕ) → HoldsBytes (contents name))
+      → (reply : Reply) × ReplyFor hash check words choice contents reply
+  pub one_for :
+      (words : List Word) (choice : Choice) (contents : List ℕ → Content) (a b : Reply)
+      → ReplyFor hash check words choice contents a
+      → ReplyFor hash check words choice contents b
+      → a ≡ b
+  -- no command goes by what the compiler chose
+  pub any_choice :
+      (words : List Word) (choice other : Choice) (given : Given) (reply : Reply)
+      → IsReply hash check words choice given reply ↔ IsReply hash check words other given reply
 
 pub record AnswerLaws (hash : Hash) (check : Check) : Type 0 where
   -- the model answers 1 exactly where the words are outside the grammar
   pub usage :
-      (words : List Word) (given : Given) (reply : Reply)
-      → IsReply hash check words given reply
+      (words : List Word) (choice : Choice) (given : Given) (reply : Reply)
+      → IsReply hash check words choice given reply
       → (reply.status ≡ 1) ↔ (command_of words ≡ None)
   -- a call on files that tell what they hold, in which none failed, does all of the model's reply or ends for want of
   -- memory
   pub whole :
-      (words : List Word) (contents : List ℕ → Content) (before after : World) (status : ℕ) (reply : Reply)
+      (words : List Word) (choice : Choice) (contents : List ℕ → Content) (before after : World) (status : ℕ)
+      (reply : Reply)
       → before.contents ≡ Some contents
-      → Answers (IsReply hash check words) words before after status
-      → HasCauses before after status
+      → Answers (IsReply hash check words choice) before after status
       → NoneFailed before after
-      → IsReply hash check words (held_by contents words) reply
+      → ReplyFor hash check words choice contents reply
       → IsWhole reply before after status ⊎ (status ≡ 5)
+  -- what was done is seen of the printed bytes, the reads and the writes, each for itself
+  pub goes :
+      (words : List Word) (choice : Choice) (before after : World) (status : ℕ)
+      → Answers (IsReply hash check words choice) before after status
+      → GoesBy (IsReply hash check words choice) before after status
+  -- and of the counts of faults
+  pub causes :
+      (words : List Word) (choice : Choice) (before after : World) (status : ℕ)
+      → Answers (IsReply hash check words choice) before after status
+      → HasCauses before after status

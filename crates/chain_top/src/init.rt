@@ -1,107 +1,95 @@
 // The command `init`.
-ghost use Rattle.std.specs.Prelude.{◌≡◌, ◌<◌, ◌≤◌, ◌^◌, List, length, IfOk, string_bytes, string_len};
+ghost use Rattle.std.specs.Prelude.{◌≡◌, ◌<◌, ◌≤◌, ◌^◌, [], ◌∷◌, length, IfOk};
+ghost use Rattle.outside.specs.Files.{Replace};
+ghost use Rattle.outside.specs.Steps.{Write, Print};
 ghost use Rattle.entry_ids.specs.Entry.{header_id};
-ghost use Rattle.chain_top.specs.Answer.{world, Answers, HasCauses};
-ghost use Rattle.chain_top.specs.Frames.{frame_spelling};
+ghost use Rattle.chain_top.specs.Asking.{Checked};
+ghost use Rattle.data_model.specs.Files.{block_frame};
 ghost use Rattle.chain_top.specs.Initial.{initial_block};
 ghost use Rattle.chain_top.specs.Line.{block_line};
-ghost use Rattle.chain_top.specs.Reply.{InitReply, set_and_told};
-ghost use Rattle.chain_top.specs.Word.{Word};
+ghost use Rattle.chain_top.specs.Plan.{done, Does, Follows};
+ghost use Rattle.chain_top.specs.Reply.{HexOf, init_steps, init_model};
 
-use crate::frames::frame;
-use crate::line::{block_line, refused_hex};
-use crate::say::{DONE, NO_MEMORY, REFUSED, WRITE_FAULT, say};
+use crate::calls::{replace, say};
+use crate::line::block_line;
+use crate::refused::refused_hex;
+use crate::stop::Stop;
 use crate::word::hex_word;
-use data_model::{Block, Header, Txs};
+use data_model::{Block, Header, Txs, frame};
 use entry_ids::block_id;
 use keyed::IdHash;
-use outside::{FileFault, Files, Sink};
-use std::alloc::{AllocError, Global};
-use wire::{Args, Bytes, NoMemory};
+use outside::Outside;
+use std::alloc::Global;
+use wire::{Args, Bytes};
 
-// The initial block as a frame, and the line that tells it.
-#[derive(Drop)]
-struct Prepared {
-    frame: Bytes,
-    line: String,
-}
-
-/// Sets the ledger to one frame, the initial block of this time and next program.
-pub fn init<F: Files, S: Sink, H: IdHash>(
+/// Sets the ledger to one frame, the initial block of this time and next program, and tells it.
+pub fn init<O: Outside, H: IdHash>(
     alloc: Global,
     ledger: &str,
     time: u64,
     program: &str,
-    files: &mut F,
-    out: &mut S,
+    out: &mut O,
     hash: &H,
-) -> u8
+) -> Result<(), Stop>
     requires { time < 2 ^ 63 }
-    ensures answers { (words : List Word)
-        → Answers (λ given reply. InitReply (H.hash_of hash.now) ledger.now time program.now reply) words
-        (world S.held S.faults F.contents F.reads F.writes F.read_faults F.write_faults out.old files.old)
-        (world S.held S.faults F.contents F.reads F.writes F.read_faults F.write_faults out.new files.new) result }
-    ensures causes { HasCauses
-        (world S.held S.faults F.contents F.reads F.writes F.read_faults F.write_faults out.old files.old)
-        (world S.held S.faults F.contents F.reads F.writes F.read_faults F.write_faults out.new files.new) result }
+    ensures { Follows (init_model (H.hash_of hash.now) ledger.now time program.now)
+        (O.io out.old) (O.io out.new) result }
 {
-    match hex_word(alloc, program) {
-        Ok(None) => match refused_hex(alloc, 3) {
-            Ok(line) => say(out, REFUSED, line.as_bytes()),
-            Err(_) => NO_MEMORY,
-        },
-        Ok(Some(code)) => match made(alloc, hash, time, code) {
-            Ok(made) => set(ledger, &made, files, out),
-            Err(_) => NO_MEMORY,
-        },
-        Err(_) => NO_MEMORY,
+    let code = program_of(alloc, program)?;
+    start(alloc, ledger, time, code, out, hash)
+}
+
+// The next program.
+fn program_of(alloc: Global, word: &str) -> Result<Bytes, Stop>
+    ensures code { Checked (λ code. code) (HexOf 3 word.now) result }
+    ensures short { IfOk result (λ code. length code ≤ 65536) }
+{
+    match hex_word(alloc, word)? {
+        Some(code) => Ok(code),
+        None => Err(Stop::Refused(refused_hex(alloc, 3)?)),
     }
 }
 
 // Sets the ledger, and then prints the line.
-fn set<F: Files, S: Sink>(ledger: &str, made: &Prepared, files: &mut F, out: &mut S) -> u8
-    requires { 0 < string_len made.now.line }
-    ensures answers { (words : List Word)
-        → Answers (λ given reply. reply ≡ set_and_told ledger.now made.now.frame (string_bytes made.now.line)) words
-        (world S.held S.faults F.contents F.reads F.writes F.read_faults F.write_faults out.old files.old)
-        (world S.held S.faults F.contents F.reads F.writes F.read_faults F.write_faults out.new files.new) result }
-    ensures causes { HasCauses
-        (world S.held S.faults F.contents F.reads F.writes F.read_faults F.write_faults out.old files.old)
-        (world S.held S.faults F.contents F.reads F.writes F.read_faults F.write_faults out.new files.new) result }
-{
-    match files.replace(ledger, made.frame.as_slice()) {
-        Ok(()) => say(out, DONE, made.line.as_bytes()),
-        Err(FileFault::Failed) => WRITE_FAULT,
-        Err(FileFault::NoMemory) => NO_MEMORY,
-    }
-}
-
-fn made<H: IdHash>(alloc: Global, hash: &H, time: u64, code: Bytes) -> Result<Prepared, NoMemory>
+fn start<O: Outside, H: IdHash>(
+    alloc: Global,
+    ledger: &str,
+    time: u64,
+    code: Bytes,
+    out: &mut O,
+    hash: &H,
+) -> Result<(), Stop>
     requires time { time < 2 ^ 63 }
     requires code { length code ≤ 65536 }
-    ensures frame { IfOk result (λ m. m.frame ≡ frame_spelling (initial_block (H.hash_of hash.now) time code)) }
-    ensures line { IfOk result
-        (λ m. string_bytes m.line
-        ≡ block_line 1 (header_id (H.hash_of hash.now) (initial_block (H.hash_of hash.now) time code).header)) }
-    ensures some { IfOk result (λ m. 0 < string_len m.line) }
+    ensures { Does (done (init_steps (H.hash_of hash.now) ledger.now (initial_block (H.hash_of hash.now) time code)))
+        (O.io out.old) (O.io out.new) result }
 {
     let block = initial_block(alloc, hash, time, code);
     let line = block_line(alloc, 1, &block_id(alloc, hash, &block.header)?)?;
     let frame = frame(alloc, &block)?;
-    Ok(Prepared { frame, line })
+    set(ledger, frame.as_slice(), line.as_bytes(), out)
+}
+
+fn set<O: Outside>(ledger: &str, frame: &[u8], line: &[u8], out: &mut O) -> Result<(), Stop>
+    ensures { Does (done (Write Replace ledger.now frame.now ∷ Print line.now ∷ []))
+        (O.io out.old) (O.io out.new) result }
+{
+    replace(out, ledger, frame)?;
+    say(out, line)
 }
 
 fn initial_block<H: IdHash>(alloc: Global, hash: &H, time: u64, code: Bytes) -> Block
     ensures { result ≡ initial_block (H.hash_of hash.now) time code }
 {
+    let nothing = hash.hash(b"");
     Block {
         header: Header {
             version: 1,
             height: 1,
             previous: [0; 32],
             time,
-            tx_root: hash.hash(&[]),
-            unspent_root: hash.hash(&[]),
+            tx_root: nothing,
+            unspent_root: nothing,
             next_program: code,
         },
         args: Args::new(alloc),

@@ -1,37 +1,43 @@
 //! The program as one call: its words, its files, what it prints, and the status that it ends with.
 #![tactic(auto)]
 
-ghost use Rattle.std.specs.Prelude.{List, Some, map, string_bytes};
-ghost use Rattle.chain_top.specs.Answer.{world, Answers, HasCauses};
+ghost use Rattle.std.specs.Prelude.{◌≡◌, Some, [], map, string_bytes};
+ghost use Rattle.outside.specs.World.{world_at};
+ghost use Rattle.chain_top.specs.Answer.{Answers, GoesBy, HasCauses};
+ghost use Rattle.chain_top.specs.Ending.{Concludes};
 ghost use Rattle.chain_top.specs.Headline.{DoesReply, GrowsLedger, IsComplete};
-ghost use Rattle.chain_top.specs.Reply.{IsReply, CommandReply};
-ghost use Rattle.chain_top.specs.Seen.{seen, HasLimit, Names};
-ghost use Rattle.chain_top.specs.Word.{Word};
+ghost use Rattle.chain_top.specs.Plan.{Follows};
+ghost use Rattle.chain_top.specs.Reply.{IsReply, model_of};
+ghost use Rattle.chain_top.specs.Seen.{seen, HasLimit};
 
 mod apply;
+mod ask;
+mod calls;
 mod command;
-mod frames;
 mod init;
+mod known;
 pub mod laws;
 mod line;
 mod load;
 mod refused;
-mod replay;
-mod say;
+mod status;
+mod stop;
 mod vm;
 mod word;
 
 use apply::apply;
+use calls::say;
 use command::{Command, command_of};
-use frames::file_readings;
 use init::init;
 use keyed::{IdHash, SigCheck};
-use laws::{growing_ledgers, replies_over_files, whole_answers};
+use known::known;
+use laws::{growing_ledgers, one_reply, whole_answers};
 use line::USAGE_LINE;
-use outside::{Files, Sink};
-use say::{NO_MEMORY, USAGE, say};
+use outside::{Both, Files, Outside, Sink};
+use status::{USAGE, closed, status_of};
 use std::alloc::Global;
-use vm::vm_told;
+use stop::Stop;
+use vm::vm;
 
 /// All that the program does: it reads its words, the command first, does the command over these files, prints to
 /// `out`, and gives the status to end with: 0 where the command was done, 1 where the words are outside the grammar, 2
@@ -44,41 +50,46 @@ pub fn chain_main<F: Files, S: Sink, H: IdHash, C: SigCheck>(
     hash: &H,
     sigs: &C,
 ) -> u8
-    // What is printed, read and written is the model's reply, or a front of it where the status is 3, 4 or 5.
-    ensures answers { Answers (IsReply (H.hash_of hash.now) (C.good_of sigs.now) (map string_bytes words.now))
-        (map string_bytes words.now)
-        (world S.held S.faults F.contents F.reads F.writes F.read_faults F.write_faults out.old files.old)
-        (world S.held S.faults F.contents F.reads F.writes F.read_faults F.write_faults out.new files.new) result }
+    // What is read, written and printed are the steps of the model's reply, in order: all where the status is 0, 1 or
+    // 2, else a front, of which the last step perhaps failed. Nothing else is begun.
+    ensures answers { Answers (IsReply (H.hash_of hash.now) (C.good_of sigs.now) (map string_bytes words.now) [])
+        (world_at S.held S.faults F.contents F.reads F.writes F.read_faults F.write_faults out.old files.old)
+        (world_at S.held S.faults F.contents F.reads F.writes F.read_faults F.write_faults out.new files.new) result }
+
+    // The same of the printed bytes, the reads and the writes, each for itself.
+    ensures goes { GoesBy (IsReply (H.hash_of hash.now) (C.good_of sigs.now) (map string_bytes words.now) [])
+        (world_at S.held S.faults F.contents F.reads F.writes F.read_faults F.write_faults out.old files.old)
+        (world_at S.held S.faults F.contents F.reads F.writes F.read_faults F.write_faults out.new files.new) result }
 
     // When the status is 3 or 4, and that it is one of them where a call on the files or the sink failed.
     ensures causes { HasCauses
-        (world S.held S.faults F.contents F.reads F.writes F.read_faults F.write_faults out.old files.old)
-        (world S.held S.faults F.contents F.reads F.writes F.read_faults F.write_faults out.new files.new) result }
+        (world_at S.held S.faults F.contents F.reads F.writes F.read_faults F.write_faults out.old files.old)
+        (world_at S.held S.faults F.contents F.reads F.writes F.read_faults F.write_faults out.new files.new) result }
 
     // Over files that tell what they hold, where no call failed: all of the reply, or want of memory.
-    ensures whole { DoesReply (H.hash_of hash.now) (C.good_of sigs.now) (map string_bytes words.now)
-        (world S.held S.faults F.contents F.reads F.writes F.read_faults F.write_faults out.old files.old)
-        (world S.held S.faults F.contents F.reads F.writes F.read_faults F.write_faults out.new files.new) result }
+    ensures whole { DoesReply (H.hash_of hash.now) (C.good_of sigs.now) (map string_bytes words.now) []
+        (world_at S.held S.faults F.contents F.reads F.writes F.read_faults F.write_faults out.old files.old)
+        (world_at S.held S.faults F.contents F.reads F.writes F.read_faults F.write_faults out.new files.new) result }
 
     // In such a call `apply` that ends with status 0 adds the frames of exactly the offers that are accepted.
     ensures growth { GrowsLedger (H.hash_of hash.now) (C.good_of sigs.now) (map string_bytes words.now)
-        (world S.held S.faults F.contents F.reads F.writes F.read_faults F.write_faults out.old files.old)
-        (world S.held S.faults F.contents F.reads F.writes F.read_faults F.write_faults out.new files.new) result }
+        (world_at S.held S.faults F.contents F.reads F.writes F.read_faults F.write_faults out.old files.old)
+        (world_at S.held S.faults F.contents F.reads F.writes F.read_faults F.write_faults out.new files.new) result }
 
     // In such a call words in the grammar, over files that are read, give 0, a refusal of the command's own list, or 5.
     ensures complete { IsComplete (H.hash_of hash.now) (C.good_of sigs.now) (map string_bytes words.now)
-        (world S.held S.faults F.contents F.reads F.writes F.read_faults F.write_faults out.old files.old)
-        (world S.held S.faults F.contents F.reads F.writes F.read_faults F.write_faults out.new files.new) result }
+        (world_at S.held S.faults F.contents F.reads F.writes F.read_faults F.write_faults out.old files.old)
+        (world_at S.held S.faults F.contents F.reads F.writes F.read_faults F.write_faults out.new files.new) result }
 {
-    file_readings();
+    known();
+    one_reply();
     whole_answers();
     growing_ledgers();
-    replies_over_files(files);
-    execute(alloc, words, files, out, hash, sigs)
+    answer_over(alloc, words, files, out, hash, sigs)
 }
 
-// What a call answers, before what follows of it where nothing failed.
-fn execute<F: Files, S: Sink, H: IdHash, C: SigCheck>(
+// The status, over files and a sink side by side.
+fn answer_over<F: Files, S: Sink, H: IdHash, C: SigCheck>(
     alloc: Global,
     words: &[String],
     files: &mut F,
@@ -86,69 +97,74 @@ fn execute<F: Files, S: Sink, H: IdHash, C: SigCheck>(
     hash: &H,
     sigs: &C,
 ) -> u8
-    ensures answers { Answers (IsReply (H.hash_of hash.now) (C.good_of sigs.now) (map string_bytes words.now))
-        (map string_bytes words.now)
-        (world S.held S.faults F.contents F.reads F.writes F.read_faults F.write_faults out.old files.old)
-        (world S.held S.faults F.contents F.reads F.writes F.read_faults F.write_faults out.new files.new) result }
-    ensures causes { HasCauses
-        (world S.held S.faults F.contents F.reads F.writes F.read_faults F.write_faults out.old files.old)
-        (world S.held S.faults F.contents F.reads F.writes F.read_faults F.write_faults out.new files.new) result }
+    ensures { Answers (IsReply (H.hash_of hash.now) (C.good_of sigs.now) (map string_bytes words.now) [])
+        (world_at S.held S.faults F.contents F.reads F.writes F.read_faults F.write_faults out.old files.old)
+        (world_at S.held S.faults F.contents F.reads F.writes F.read_faults F.write_faults out.new files.new) result }
+{
+    let mut both = Both { files, out };
+    answer(alloc, words, &mut both, hash, sigs)
+}
+
+// The status, over files and a sink as one.
+fn answer<O: Outside, H: IdHash, C: SigCheck>(
+    alloc: Global,
+    words: &[String],
+    out: &mut O,
+    hash: &H,
+    sigs: &C,
+) -> u8
+    ensures place { (O.io out.new).place ≡ (O.io out.old).place }
+    ensures answers { Answers (IsReply (H.hash_of hash.now) (C.good_of sigs.now) (map string_bytes words.now) [])
+        (O.io out.old).world (O.io out.new).world result }
+{
+    status_of(execute(alloc, words, out, hash, sigs))
+}
+
+// Does what the words say.
+fn execute<O: Outside, H: IdHash, C: SigCheck>(
+    alloc: Global,
+    words: &[String],
+    out: &mut O,
+    hash: &H,
+    sigs: &C,
+) -> Result<u8, Stop>
+    ensures { Concludes (IsReply (H.hash_of hash.now) (C.good_of sigs.now) (map string_bytes words.now) [])
+        (O.io out.old) (O.io out.new) result }
 {
     match command_of(words) {
-        None => say(out, USAGE, USAGE_LINE),
-        Some(command) => run(alloc, command, files, out, hash, sigs),
+        Some(command) => closed(run(alloc, command, out, hash, sigs), out),
+        None => {
+            say(out, USAGE_LINE)?;
+            Ok(USAGE)
+        }
     }
 }
 
 // Does a command.
-fn run<F: Files, S: Sink, H: IdHash, C: SigCheck>(
+fn run<O: Outside, H: IdHash, C: SigCheck>(
     alloc: Global,
     command: Command<'_>,
-    files: &mut F,
-    out: &mut S,
+    out: &mut O,
     hash: &H,
     sigs: &C,
-) -> u8
+) -> Result<(), Stop>
     requires { HasLimit (Some command) }
-    ensures answers { (words : List Word)
-        → Names words command.entry
-        → Answers (CommandReply (H.hash_of hash.now) (C.good_of sigs.now) (Some (seen command.entry))) words
-        (world S.held S.faults F.contents F.reads F.writes F.read_faults F.write_faults out.old files.old)
-        (world S.held S.faults F.contents F.reads F.writes F.read_faults F.write_faults out.new files.new) result }
-    ensures causes { HasCauses
-        (world S.held S.faults F.contents F.reads F.writes F.read_faults F.write_faults out.old files.old)
-        (world S.held S.faults F.contents F.reads F.writes F.read_faults F.write_faults out.new files.new) result }
+    ensures { Follows (model_of (H.hash_of hash.now) (C.good_of sigs.now) [] (seen command.entry))
+        (O.io out.old) (O.io out.new) result }
 {
     match command {
         Command::Vm {
             limit,
             program,
             args,
-        } => match vm_told(alloc, sigs, limit, program.as_str(), args) {
-            Ok(told) => say(out, told.status, told.line.as_bytes()),
-            Err(_) => NO_MEMORY,
-        },
+        } => vm(alloc, limit, program.as_str(), args, out, sigs),
         Command::Init {
             ledger,
             time,
             program,
-        } => init(
-            alloc,
-            ledger.as_str(),
-            time,
-            program.as_str(),
-            files,
-            out,
-            hash,
-        ),
-        Command::Apply { ledger, offers } => apply(
-            alloc,
-            ledger.as_str(),
-            offers.as_str(),
-            files,
-            out,
-            hash,
-            sigs,
-        ),
+        } => init(alloc, ledger.as_str(), time, program.as_str(), out, hash),
+        Command::Apply { ledger, offers } => {
+            apply(alloc, ledger.as_str(), offers.as_str(), out, hash, sigs)
+        }
     }
 }

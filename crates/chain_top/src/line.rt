@@ -1,7 +1,7 @@
 // Printed lines, each with its newline.
-ghost use Rattle.std.specs.Prelude.{◌≡◌, ◌<◌, IfOk, string_bytes, string_len};
+ghost use Rattle.std.specs.Prelude.{◌≡◌, IfOk, string_bytes};
 ghost use Rattle.hex.specs.Hex.{encode_lower};
-ghost use Rattle.chain_top.specs.Line.{refused_hex, verdict_line, block_line, block_line_of, accepted_line};
+ghost use Rattle.chain_top.specs.Line.{verdict_line, block_line, block_line_of, accepted_line};
 ghost use Rattle.chain_top.specs.Line.{accepted_line_of};
 
 use std::alloc::{AllocError, Global};
@@ -10,16 +10,8 @@ use wire::Id;
 
 pub const USAGE_LINE: &[u8] = b"usage\n";
 
-pub fn refused_hex(alloc: Global, place: u64) -> Result<String, AllocError>
-    ensures text { IfOk result (λ line. string_bytes line ≡ refused_hex place) }
-    ensures some { IfOk result (λ line. 0 < string_len line) }
-{
-    format!(in alloc; "refused hex {place}\n")
-}
-
 pub fn verdict_line(alloc: Global, verdict: &Verdict) -> Result<String, AllocError>
-    ensures text { IfOk result (λ line. string_bytes line ≡ verdict_line verdict.now) }
-    ensures some { IfOk result (λ line. 0 < string_len line) }
+    ensures { IfOk result (λ line. string_bytes line ≡ verdict_line verdict.now) }
 {
     match *verdict {
         Verdict::Succeeded { left } => format!(in alloc; "succeeded left {left}\n"),
@@ -28,31 +20,27 @@ pub fn verdict_line(alloc: Global, verdict: &Verdict) -> Result<String, AllocErr
 }
 
 pub fn block_line(alloc: Global, height: u64, id: &Id) -> Result<String, AllocError>
-    ensures text { IfOk result (λ line. string_bytes line ≡ block_line height id.now) }
-    ensures some { IfOk result (λ line. 0 < string_len line) }
+    ensures { IfOk result (λ line. string_bytes line ≡ block_line height id.now) }
 {
     let hex = hex_text(alloc, id)?;
     block_line_of(alloc, height, hex.as_str())
 }
 
 fn block_line_of(alloc: Global, height: u64, hex: &str) -> Result<String, AllocError>
-    ensures text { IfOk result (λ line. string_bytes line ≡ block_line_of height hex.now) }
-    ensures some { IfOk result (λ line. 0 < string_len line) }
+    ensures { IfOk result (λ line. string_bytes line ≡ block_line_of height hex.now) }
 {
     format!(in alloc; "block {height} {hex}\n")
 }
 
 pub fn accepted_line(alloc: Global, height: u64, id: &Id) -> Result<String, AllocError>
-    ensures text { IfOk result (λ line. string_bytes line ≡ accepted_line height id.now) }
-    ensures some { IfOk result (λ line. 0 < string_len line) }
+    ensures { IfOk result (λ line. string_bytes line ≡ accepted_line height id.now) }
 {
     let hex = hex_text(alloc, id)?;
     accepted_line_of(alloc, height, hex.as_str())
 }
 
 fn accepted_line_of(alloc: Global, height: u64, hex: &str) -> Result<String, AllocError>
-    ensures text { IfOk result (λ line. string_bytes line ≡ accepted_line_of height hex.now) }
-    ensures some { IfOk result (λ line. 0 < string_len line) }
+    ensures { IfOk result (λ line. string_bytes line ≡ accepted_line_of height hex.now) }
 {
     format!(in alloc; "accepted {height} {hex}\n")
 }

@@ -1,125 +1,108 @@
-// Reading the files of blocks that a command names.
-ghost use Rattle.std.specs.Prelude.{◌≡◌, ◌≤◌, length, IfOk, IfErr};
-ghost use Rattle.chain_top.specs.Frames.{AreFramed};
-ghost use Rattle.chain_top.specs.Loading.{most_bytes, BytesOf, BlocksOf};
-ghost use Rattle.chain_top.specs.Loads.{Speaks, LookBegun, LookCounts, Told, BlocksRead};
+//! The ledger of a file of blocks.
+ghost use Rattle.std.specs.Prelude.{◌≡◌, ◌+◌, ◌<◌, ◌≤◌, ◌^◌, ◌++◌, [], ◌∷◌, length, IfOk, IfErr, OnOk};
+ghost use Rattle.ledger_core.specs.Chain.{StandsFor};
+ghost use Rattle.std.specs.Vec.Iter.{into_iter_items};
+ghost use Rattle.vm_run.specs.Row.{Check};
+ghost use Rattle.data_model.specs.Files.{IsFramed};
+ghost use Rattle.chain_top.specs.Files.{AreFramed};
+ghost use Rattle.chain_top.specs.Loaded.{Loads, NotStarted, NotGrown};
 
-use crate::frames::{FramesFault, read_frames};
-use crate::refused::{refused_file, refused_size};
-use data_model::Blocks;
-use outside::{FileFault, Files};
-use std::alloc::{AllocError, Global};
-use wire::NoMemory;
+use data_model::{Block, DataKind, FramesFault, read_blocks};
+use keyed::{IdHash, SigCheck};
+use ledger_core::{BlockRefusal, Ledger, OfferFault, StartFault};
+use std::alloc::Global;
+use std::vec::IntoIter;
 
-/// The most bytes of a file.
-pub const MOST: u64 = 67_108_864;
-
-/// Why a command ends before its own work.
-#[derive(Drop)]
-pub enum Stopped {
-    /// A file is refused, by this line.
-    Refused(String),
-    /// A read failed.
-    ReadFault,
+/// Why bytes are not the file of a ledger.
+#[derive(Clone, Copy, Debug, PartialEq, Eq)]
+pub enum LoadFault {
+    /// They do not read as frames, or there is none: the first fault is in this frame, counted from 0, at this byte.
+    Frame { index: u64, at: u64, kind: DataKind },
+    /// The first block starts no chain.
+    Start(StartFault),
+    /// This later block, counted from 0, does not extend those before it.
+    Block { index: u64, refusal: BlockRefusal },
     /// Memory was wanted and not found.
     NoMemory,
 }
 
-impl From<AllocError> for Stopped {
-    ghost use Rattle.std.specs.Prelude.{◌≡◌};
-    ghost use Rattle.chain_top.specs.declared.load.Stopped.TheVariants as stops;
+impl From<FramesFault> for LoadFault {
+    ghost use Rattle.chain_top.specs.Loaded.{of_frames};
 
-    ghost from_gives = { λ _ e. e ≡ stops.NoMemory };
+    ghost from_gives = { λ fault e. e ≡ of_frames fault };
 
-    fn from(_: AllocError) -> Stopped {
-        Stopped::NoMemory
+    fn from(fault: FramesFault) -> LoadFault {
+        match fault {
+            FramesFault::At { index, at, kind } => LoadFault::Frame { index, at, kind },
+            FramesFault::NoMemory => LoadFault::NoMemory,
+        }
     }
 }
 
-impl From<NoMemory> for Stopped {
-    ghost use Rattle.std.specs.Prelude.{◌≡◌};
-    ghost use Rattle.chain_top.specs.declared.load.Stopped.TheVariants as stops;
-
-    ghost from_gives = { λ _ e. e ≡ stops.NoMemory };
-
-    fn from(_: NoMemory) -> Stopped {
-        Stopped::NoMemory
-    }
-}
-
-/// The blocks of the file that the word at this place names, and the file's length.
-pub fn load_blocks<F: Files>(
+/// The ledger of a file. An empty file has a fault of its count of frames.
+pub fn load<H: IdHash, C: SigCheck>(
     alloc: Global,
-    files: &mut F,
-    name: &str,
-    place: u64,
-) -> Result<(Blocks, u64), Stopped>
-    ensures told { Told (λ x. x) (BlocksOf place) (F.contents files.old) name.now result }
-    ensures framed { IfOk result (λ x. AreFramed x.0) }
-    ensures few { IfOk result (λ x. length x.0 ≤ x.1) }
-    ensures small { IfOk result (λ x. x.1 ≤ most_bytes) }
-    ensures speaks { IfErr result Speaks }
-    ensures begun { LookBegun name.now result (F.reads files.old) (F.reads files.new) }
-    ensures count { LookCounts (F.read_faults files.old) (F.read_faults files.new) result }
-    ensures contents { F.contents files.new ≡ F.contents files.old }
-    ensures writes { F.writes files.new ≡ F.writes files.old }
-    ensures write_count { F.write_faults files.new ≡ F.write_faults files.old }
+    hash: &H,
+    sigs: &C,
+    bytes: &[u8],
+) -> Result<Ledger, LoadFault>
+    requires { length bytes.now < 2 ^ 40 }
+    ensures loads { Loads (H.hash_of hash.now) (C.good_of sigs.now) bytes.now result }
+    ensures stands { IfOk result (StandsFor (H.hash_of hash.now) (C.good_of sigs.now)) }
+    ensures few { IfOk result (λ ledger. length ledger.blocks ≤ length bytes.now) }
 {
-    let bytes = match read_file(alloc, files, name, place) {
-        Ok(bytes) => bytes,
-        Err(stopped) => return Err(stopped),
+    let mut blocks = read_blocks(alloc, bytes)?.into_vec().into_iter();
+    let Some(initial) = blocks.next() else {
+        return Err(LoadFault::Frame {
+            index: 0,
+            at: 0,
+            kind: DataKind::Count,
+        });
     };
-    let held = bytes.as_slice();
-    match blocks_of(alloc, held, place) {
-        Ok(blocks) => Ok((blocks, held.len() as u64)),
-        Err(stopped) => Err(stopped),
+    let mut ledger = started(alloc, hash, initial)?;
+    grow(alloc, hash, sigs, &mut ledger, blocks)?;
+    Ok(ledger)
+}
+
+// The ledger of an initial block.
+fn started<H: IdHash>(alloc: Global, hash: &H, initial: Block) -> Result<Ledger, LoadFault>
+    requires { IsFramed initial }
+    ensures stands { IfOk result (λ ledger. (check : Check) → StandsFor (H.hash_of hash.now) check ledger) }
+    ensures alone { IfOk result (λ ledger. ledger.blocks ≡ initial ∷ []) }
+    ensures refused { IfErr result (NotStarted (H.hash_of hash.now) initial) }
+{
+    match Ledger::start(alloc, hash, initial) {
+        Ok(ledger) => Ok(ledger),
+        Err(StartFault::NoMemory) => Err(LoadFault::NoMemory),
+        Err(fault) => Err(LoadFault::Start(fault)),
     }
 }
 
-// The bytes of a file that is not too long.
-fn read_file<F: Files>(
+// Adds the later blocks.
+fn grow<H: IdHash, C: SigCheck>(
     alloc: Global,
-    files: &mut F,
-    name: &str,
-    place: u64,
-) -> Result<Vec<u8>, Stopped>
-    ensures told { Told (λ v. v.items) (BytesOf place) (F.contents files.old) name.now result }
-    ensures small { IfOk result (λ v. length v.items ≤ most_bytes) }
-    ensures speaks { IfErr result Speaks }
-    ensures begun { LookBegun name.now result (F.reads files.old) (F.reads files.new) }
-    ensures count { LookCounts (F.read_faults files.old) (F.read_faults files.new) result }
-    ensures contents { F.contents files.new ≡ F.contents files.old }
-    ensures writes { F.writes files.new ≡ F.writes files.old }
-    ensures write_count { F.write_faults files.new ≡ F.write_faults files.old }
+    hash: &H,
+    sigs: &C,
+    ledger: &mut Ledger,
+    mut later: IntoIter<Block>,
+) -> Result<(), LoadFault>
+    requires stands { StandsFor (H.hash_of hash.now) (C.good_of sigs.now) ledger.old }
+    requires framed { AreFramed (into_iter_items later) }
+    requires few { length ledger.old.blocks + length (into_iter_items later) < 2 ^ 40 }
+    ensures stands { StandsFor (H.hash_of hash.now) (C.good_of sigs.now) ledger.new }
+    ensures all { OnOk result (ledger.new.blocks ≡ ledger.old.blocks ++ into_iter_items later) }
+    ensures refused { IfErr result
+        (NotGrown (H.hash_of hash.now) (C.good_of sigs.now) (ledger.old.blocks ++ into_iter_items later)) }
 {
-    match files.read(alloc, name, MOST) {
-        Ok(bytes) => {
-            if bytes.len() as u64 > MOST {
-                match refused_size(alloc, place) {
-                    Ok(line) => Err(Stopped::Refused(line)),
-                    Err(_) => Err(Stopped::NoMemory),
-                }
-            } else {
-                Ok(bytes)
+    while let Some(block) = later.next() {
+        match ledger.offer(alloc, hash, sigs, block) {
+            Ok(_) => {}
+            Err(OfferFault::Refused(refusal)) => {
+                let index = ledger.blocks().len() as u64;
+                return Err(LoadFault::Block { index, refusal });
             }
+            Err(OfferFault::NoMemory) => return Err(LoadFault::NoMemory),
         }
-        Err(FileFault::Failed) => Err(Stopped::ReadFault),
-        Err(FileFault::NoMemory) => Err(Stopped::NoMemory),
     }
-}
-
-// The blocks that bytes read as.
-fn blocks_of(alloc: Global, bytes: &[u8], place: u64) -> Result<Blocks, Stopped>
-    ensures read { BlocksRead place bytes.now result }
-    ensures framed { IfOk result AreFramed }
-    ensures few { IfOk result (λ blocks. length blocks ≤ length bytes.now) }
-    ensures speaks { IfErr result Speaks }
-{
-    match read_frames(alloc, bytes) {
-        Ok(blocks) => Ok(blocks),
-        Err(FramesFault::At { index, at, kind }) => {
-            Err(Stopped::Refused(refused_file(alloc, place, index, at, kind)?))
-        }
-        Err(FramesFault::NoMemory) => Err(Stopped::NoMemory),
-    }
+    Ok(())
 }

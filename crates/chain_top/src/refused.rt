@@ -1,18 +1,22 @@
 // Printed refusals of files and of blocks.
-ghost use Rattle.std.specs.Prelude.{◌≡◌, ◌<◌, IfOk, string_bytes, string_len};
-ghost use Rattle.chain_top.specs.Line.{refused_size, refused_file, refused_file_of, refused_ledger, refused_words};
+ghost use Rattle.std.specs.Prelude.{◌≡◌, IfOk, string_bytes};
+ghost use Rattle.chain_top.specs.Line.{refused_hex, refused_size, refused_file, refused_ledger, refused_words};
 ghost use Rattle.chain_top.specs.Line.{refused_block, start_words, refusal_words, number_words, id_words, id_words_of};
 
-use crate::frames::kind_name;
 use crate::line::hex_text;
 use data_model::DataKind;
 use ledger_core::{BlockRefusal, StartFault};
 use std::alloc::{AllocError, Global};
 use wire::Id;
 
+pub fn refused_hex(alloc: Global, place: u64) -> Result<String, AllocError>
+    ensures { IfOk result (λ line. string_bytes line ≡ refused_hex place) }
+{
+    format!(in alloc; "refused hex {place}\n")
+}
+
 pub fn refused_size(alloc: Global, place: u64) -> Result<String, AllocError>
-    ensures text { IfOk result (λ line. string_bytes line ≡ refused_size place) }
-    ensures some { IfOk result (λ line. 0 < string_len line) }
+    ensures { IfOk result (λ line. string_bytes line ≡ refused_size place) }
 {
     format!(in alloc; "refused size {place}\n")
 }
@@ -24,43 +28,26 @@ pub fn refused_file(
     at: u64,
     kind: DataKind,
 ) -> Result<String, AllocError>
-    ensures text { IfOk result (λ line. string_bytes line ≡ refused_file place index at kind) }
-    ensures some { IfOk result (λ line. 0 < string_len line) }
-{
-    refused_file_of(alloc, place, index, at, kind_name(kind))
-}
-
-fn refused_file_of(
-    alloc: Global,
-    place: u64,
-    index: u64,
-    at: u64,
-    kind: &str,
-) -> Result<String, AllocError>
-    ensures text { IfOk result (λ line. string_bytes line ≡ refused_file_of place index at kind.now) }
-    ensures some { IfOk result (λ line. 0 < string_len line) }
+    ensures { IfOk result (λ line. string_bytes line ≡ refused_file place index at kind) }
 {
     format!(in alloc; "refused file {place} {index} {at} {kind}\n")
 }
 
 pub fn refused_ledger(alloc: Global, index: u64, words: &str) -> Result<String, AllocError>
-    ensures text { IfOk result (λ line. string_bytes line ≡ refused_ledger index words.now) }
-    ensures some { IfOk result (λ line. 0 < string_len line) }
+    ensures { IfOk result (λ line. string_bytes line ≡ refused_ledger index words.now) }
 {
     format!(in alloc; "refused ledger {index} {words}\n")
 }
 
 pub fn refused_block(alloc: Global, refusal: &BlockRefusal) -> Result<String, AllocError>
-    ensures text { IfOk result (λ line. string_bytes line ≡ refused_block refusal.now) }
-    ensures some { IfOk result (λ line. 0 < string_len line) }
+    ensures { IfOk result (λ line. string_bytes line ≡ refused_block refusal.now) }
 {
     let words = refusal_words(alloc, refusal)?;
     refused_words(alloc, words.as_str())
 }
 
 fn refused_words(alloc: Global, words: &str) -> Result<String, AllocError>
-    ensures text { IfOk result (λ line. string_bytes line ≡ refused_words words.now) }
-    ensures some { IfOk result (λ line. 0 < string_len line) }
+    ensures { IfOk result (λ line. string_bytes line ≡ refused_words words.now) }
 {
     format!(in alloc; "refused {words}\n")
 }

@@ -1,30 +1,29 @@
-use Rattle.std.proofs.Common.{◌≡◌, ◌∙◌, None, Option, sym, ap, subst, refl, map, string_bytes}
-use Rattle.chain_top.specs.Command.{Command, command_of}
-use Rattle.chain_top.specs.Seen.{seen_command}
-use Rattle.chain_top.proofs.Named.{named}
-use Rattle.chain_top.specs.Line.{usage_line}
-use Rattle.chain_top.specs.Reply.{told, CommandReply}
-use Rattle.chain_top.specs.Answer.{world, Answers}
-use Rattle.chain_top.proofs.Answered.{said-answers, given_of}
+use Rattle.std.proofs.Common.{[], map}
+use Rattle.std.specs.Prelude.{string_bytes}
+use Rattle.std.specs.declared.alloc.Global.{Global}
+use Rattle.chain_top.proofs.Concluding.{concludes-command, concludes-usage, concludes-no-usage}
+use Rattle.chain_top.specs.Seen.{seen}
 use Rattle.chain_top.proofs.execute.Goals as goal
 
-pub returns-in-None-clause-answers : goal.returns-in-None-clause-answers
-returns-in-None-clause-answers g c =
-    let words = map string_bytes c.args.words.now in
-    let at = world g.S.Sink.held g.S.Sink.faults g.F.Files.contents g.F.Files.reads g.F.Files.writes g.F.Files.read_faults g.F.Files.write_faults in
-    let before = at c.args.out.now c.args.files.now in
-    let after = at c.say.new.out c.args.files.now in
-    let is : None ≡ command_of words = ap seen_command (sym c.in-None.is) ∙ c.command_of.ensures.reads in
-    let check = g.C.SigCheck.good_of c.args.sigs.now in
+pub returns-in_err-say-in-None : goal.returns-in_err-say-in-None
+returns-in_err-say-in-None g c =
     let hash = g.H.IdHash.hash_of c.args.hash.now in
-    said-answers (λ given reply. CommandReply hash check (command_of words) given reply) words before after (record { contents = refl; reads = refl; writes = refl; read_faults = refl; write_faults = refl }) 1 usage_line c.say.result
-    (subst (λ (o : Option Command). CommandReply hash check o (given_of before.contents words) (told 1 usage_line)) is refl) c.say.ensures
+    let check = g.C.SigCheck.good_of c.args.sigs.now in
+    let words = map (string_bytes {Z = Global}) c.args.words.now in
+    let start = g.O.Outside.io c.args.out.now in
+    concludes-no-usage hash check words [] start _ start _ _ c.from_residual.ensures.1 c.in-None.ensures.reads c.in_err-say-in-None.ensures
 
-pub returns-in-Some-clause-answers : goal.returns-in-Some-clause-answers
-returns-in-Some-clause-answers g c =
-    let words = map string_bytes c.args.words.now in
-    let at = world g.S.Sink.held g.S.Sink.faults g.F.Files.contents g.F.Files.reads g.F.Files.writes g.F.Files.read_faults g.F.Files.write_faults in
-    let is = ap seen_command (sym c.in-Some.is) ∙ c.command_of.ensures.reads in
-    let check = g.C.SigCheck.good_of c.args.sigs.now in
+pub returns-in-Some : goal.returns-in-Some
+returns-in-Some g c =
     let hash = g.H.IdHash.hash_of c.args.hash.now in
-    subst (λ (o : Option Command). Answers (λ given reply. CommandReply hash check o given reply) words (at c.args.out.now c.args.files.now) (at c.run.new.out c.run.new.files) c.run.result) is (c.run.ensures.answers words (named words c.in-Some.command is))
+    let check = g.C.SigCheck.good_of c.args.sigs.now in
+    let words = map (string_bytes {Z = Global}) c.args.words.now in
+    concludes-command hash check words [] (g.O.Outside.io c.args.out.now) (g.O.Outside.io c.run.new.out) _ (seen c.in-Some.command) c.run.result c.closed.result c.in-Some.ensures.reads c.run.ensures c.closed.ensures
+
+pub returns-in_ok-say-in-None : goal.returns-in_ok-say-in-None
+returns-in_ok-say-in-None g c =
+    let hash = g.H.IdHash.hash_of c.args.hash.now in
+    let check = g.C.SigCheck.good_of c.args.sigs.now in
+    let words = map (string_bytes {Z = Global}) c.args.words.now in
+    let start = g.O.Outside.io c.args.out.now in
+    concludes-usage hash check words [] start _ start _ c.in-None.ensures.reads c.in_ok-say-in-None.ensures

@@ -1,78 +1,47 @@
-use Rattle.std.proofs.Common.{◌≡◌, ℕ, ◌+◌, List, [], ◌∷◌, drop, sym, ◌∙◌, ap, subst, arith}
-use Rattle.std.proofs.lemmas.List.{drop_more, drop_all}
+use Rattle.std.proofs.Common.{rules, ◌≡◌, List, [], ◌∷◌, length, sym, ap, subst, arith}
+use Rattle.std.specs.Vec.Iter.{into_iter_items}
 use Rattle.data_model.specs.declared.block.Block.{Block}
-use Rattle.chain_top.specs.Answer.{world, HasCauses}
-use Rattle.chain_top.specs.Following.{Followed, OfferReply, Front}
-use Rattle.chain_top.proofs.Offering.{some_chain, front-none, front-more, front-ends, front-all, no_faults, no_more_faults}
+use Rattle.chain_top.specs.Files.{AreFramed}
+use Rattle.chain_top.specs.Offered.{OffersDone}
+use Rattle.chain_top.proofs.Lines.{empty-list}
+use Rattle.chain_top.proofs.Offering.{offers-none, offers-more, offers-stopped}
 use Rattle.chain_top.proofs.apply.offer_all.Goals as goal
 
 pub loop-block-init : goal.loop-block-init
-loop-block-init g c =
-    let world = world g.S.Sink.held g.S.Sink.faults g.F.Files.contents g.F.Files.reads g.F.Files.writes g.F.Files.read_faults g.F.Files.write_faults c.args.out.now c.args.files.now in
-    record {
-      stands = c.requires.stands;
-      few = omega arith;
-      front = front-none _ _ c.args.name.now c.args.ledger.now.blocks c.args.blocks.now world;
-      no_faults = no_faults world;
-    }
+loop-block-init g c = record { stands = c.requires.stands; framed = c.requires.framed; few = c.requires.few; onto = λ end r d. d }
 
 pub loop-block-preserved : goal.loop-block-preserved
 loop-block-preserved g c =
-    let at = world g.S.Sink.held g.S.Sink.faults g.F.Files.contents g.F.Files.reads g.F.Files.writes g.F.Files.read_faults g.F.Files.write_faults in
-    let before = at c.args.out.now c.args.files.now in
-    let mid = at c.loop-block.out c.loop-block.files in
-    let after = at c.offer_one-status.new.out c.offer_one-status.new.files in
     let hash = g.H.IdHash.hash_of c.args.hash.now in
     let check = g.C.SigCheck.good_of c.args.sigs.now in
-    let name = c.args.name.now in
-    let start = c.args.ledger.now.blocks in
-    let offers = c.args.blocks.now in
-    let now = c.loop-block.ledger.blocks in
-    let later = c.offer_one-status.new.ledger.blocks in
-    let k = c.loop-block.block-index in
-    let block = c.block-item.result in
-    let rest : drop k offers ≡ block ∷ drop (k + 1) offers = drop_more offers k block c.loop-block-test.true ∙ ap (λ b. b ∷ drop (k + 1) offers) (sym c.block-item.is) in
-    let front = subst (λ (bs : List Block). Front hash check name start offers now bs before mid) rest c.loop-block.invariant.front in
-    let done : c.offer_one-status.result ≡ 0 = c.if-status-ne-DONE.false in
-    let one = subst (λ (status : ℕ). Followed (OfferReply hash check name now block later status) mid after status) done c.offer_one-status.ensures.follows in
-    let causes = subst (λ (status : ℕ). HasCauses mid after status) done c.offer_one-status.ensures.causes in
+    let block = c.in-Some.block in
+    let rest = into_iter_items c.next.new.self in
+    let items : into_iter_items c.loop-block.offers ≡ block ∷ rest = c.in-Some.ensures.items in
+    let framed : AreFramed (block ∷ rest) = subst AreFramed items c.loop-block.invariant.framed in
     record {
-      stands = c.offer_one-status.ensures.stands;
-      few = omega (arith, c.loop-block.invariant.few, c.offer_one-status.ensures.few);
-      front = front-more hash check name start offers now before mid after block (drop (k + 1) offers) later front one;
-      no_faults = no_more_faults before mid after c.loop-block.invariant.no_faults causes;
+      stands = c.in_ok-offer_one.ensures.stands;
+      framed = framed.1;
+      few = omega (arith, c.loop-block.invariant.few, c.in_ok-offer_one.ensures.few, ap length items);
+      onto = λ end r d.
+          c.loop-block.invariant.onto end r
+          (subst (λ (bs : List Block). OffersDone hash check c.args.name.now c.loop-block.ledger.blocks bs (g.O.Outside.io c.loop-block.out) end r) (sym items)
+          (offers-more c.known.ensures hash check c.args.name.now c.loop-block.ledger.blocks block c.offer_one.new.ledger.blocks rest _ _ _ _ r c.in_ok-offer_one.ensures.done d));
     }
 
-pub returns-then-status-ne-DONE-clause-follows : goal.returns-then-status-ne-DONE-clause-follows
-returns-then-status-ne-DONE-clause-follows g c =
-    let at = world g.S.Sink.held g.S.Sink.faults g.F.Files.contents g.F.Files.reads g.F.Files.writes g.F.Files.read_faults g.F.Files.write_faults in
-    let before = at c.args.out.now c.args.files.now in
-    let mid = at c.loop-block.out c.loop-block.files in
-    let after = at c.offer_one-status.new.out c.offer_one-status.new.files in
+pub returns-in_err-offer_one : goal.returns-in_err-offer_one
+returns-in_err-offer_one g c =
     let hash = g.H.IdHash.hash_of c.args.hash.now in
     let check = g.C.SigCheck.good_of c.args.sigs.now in
-    let name = c.args.name.now in
-    let start = c.args.ledger.now.blocks in
-    let offers = c.args.blocks.now in
-    let now = c.loop-block.ledger.blocks in
-    let later = c.offer_one-status.new.ledger.blocks in
-    let k = c.loop-block.block-index in
-    let block = c.block-item.result in
-    let rest : drop k offers ≡ block ∷ drop (k + 1) offers = drop_more offers k block c.loop-block-test.true ∙ ap (λ b. b ∷ drop (k + 1) offers) (sym c.block-item.is) in
-    let front = subst (λ (bs : List Block). Front hash check name start offers now bs before mid) rest c.loop-block.invariant.front in
-    front-ends hash check name start offers now before mid after block (drop (k + 1) offers) later front c.offer_one-status.result c.if-status-ne-DONE.true (some_chain hash check now c.loop-block.invariant.stands.chain) c.offer_one-status.ensures.follows
+    let block = c.in-Some.block in
+    let rest = into_iter_items c.next.new.self in
+    let items : into_iter_items c.loop-block.offers ≡ block ∷ rest = c.in-Some.ensures.items in
+    let r = c.from_residual.result in
+    c.loop-block.invariant.onto (g.O.Outside.io c.offer_one.new.out) r
+    (subst (λ (bs : List Block). OffersDone hash check c.args.name.now c.loop-block.ledger.blocks bs (g.O.Outside.io c.loop-block.out) (g.O.Outside.io c.offer_one.new.out) r) (sym items)
+    (offers-stopped c.known.ensures hash check c.args.name.now c.loop-block.ledger.blocks block c.offer_one.new.ledger.blocks rest _ _ _ r c.loop-block.invariant.stands.chain c.from_residual.ensures.1 c.in_err-offer_one.ensures.done))
 
-pub returns-clause-follows : goal.returns-clause-follows
-returns-clause-follows g c =
-    let at = world g.S.Sink.held g.S.Sink.faults g.F.Files.contents g.F.Files.reads g.F.Files.writes g.F.Files.read_faults g.F.Files.write_faults in
-    let before = at c.args.out.now c.args.files.now in
-    let after = at c.loop-block.out c.loop-block.files in
-    let hash = g.H.IdHash.hash_of c.args.hash.now in
-    let check = g.C.SigCheck.good_of c.args.sigs.now in
-    let name = c.args.name.now in
-    let start = c.args.ledger.now.blocks in
-    let offers = c.args.blocks.now in
-    let now = c.loop-block.ledger.blocks in
-    let k = c.loop-block.block-index in
-    let none : drop k offers ≡ [] = drop_all k offers c.loop-block-test.false in
-    front-all hash check name start offers now before after after (subst (λ (bs : List Block). Front hash check name start offers now bs before after) none c.loop-block.invariant.front)
+pub returns : goal.returns
+returns g c =
+    let len : length (into_iter_items c.loop-block.offers) ≡ 0 = search rules in
+    let none : into_iter_items c.loop-block.offers ≡ [] = empty-list _ len in
+    c.loop-block.invariant.onto (g.O.Outside.io c.loop-block.out) _ (offers-none c.known.ensures _ _ c.args.name.now c.loop-block.ledger.blocks _ _ _ none)

@@ -1,0 +1,52 @@
+-- The line of a verdict, by how the words are read.
+use Rattle.std.proofs.Common.{◌≡◌, ℕ, List, [], ◌∷◌, Option, Some, None, Result, Ok, Err, refl, sym, ◌∙◌, ap, subst}
+use Rattle.vm_num.specs.Item.{Item}
+use Rattle.vm_run.specs.Row.{Check}
+use Rattle.vm_run.specs.Verdict.{HasVerdict}
+use Rattle.vm_run.specs.declared.context.Context.TheVariants.{Nothing}
+use Rattle.vm_run.specs.declared.verdict.Verdict.{Verdict}
+use Rattle.chain_top.specs.Asking.{IsCheck}
+use Rattle.chain_top.specs.Known.{Known}
+use Rattle.chain_top.specs.Line.{refused_hex, verdict_line}
+use Rattle.chain_top.specs.Reply.{VmLine, misfit, ran}
+use Rattle.chain_top.specs.Word.{Word, hex_of, hex_words, on_hex, with_front}
+
+module _ (check : Check) (limit : ℕ) (program : Word) (args : List Word) where
+  pub no_program : (line : List ℕ) → None ≡ hex_of program → line ≡ refused_hex 2 → VmLine check limit program args (Err line)
+  no_program line none is =
+      subst (λ (l : List ℕ). VmLine check limit program args (Err l)) (sym is) (misfit (ap (λ o. on_hex 2 o (hex_words 3 args)) (sym none)))
+
+  pub no_argument : (line : List ℕ) (code : Item) (place : ℕ) → Some code ≡ hex_of program → hex_words 3 args ≡ Err place → line ≡ refused_hex place → VmLine check limit program args (Err line)
+  no_argument line code place some err is =
+      subst (λ (l : List ℕ). VmLine check limit program args (Err l)) (sym is) (misfit (ap (λ o. on_hex 2 o (hex_words 3 args)) (sym some) ∙ ap (with_front code) err))
+
+  pub was_run : (line : List ℕ) (code : Item) (items : List Item) (verdict : Verdict) → Some code ≡ hex_of program → hex_words 3 args ≡ Ok items → HasVerdict Nothing check code items limit verdict → line ≡ verdict_line verdict → VmLine check limit program args (Ok line)
+  was_run line code items verdict some ok has is =
+      subst (λ (l : List ℕ). VmLine check limit program args (Ok l)) (sym is) (ran code items (ap (λ o. on_hex 2 o (hex_words 3 args)) (sym some) ∙ ap (with_front code) ok) has)
+
+module _ (laws : Known) (check : Check) (limit : ℕ) (program : Word) (args : List Word) where
+  some_line : (r : Result (List ℕ) (List ℕ)) × VmLine check limit program args r
+  some_line = by_words (hex_of program) refl (hex_words 3 args) refl
+    where
+      by_words : (code : Option Item) → code ≡ hex_of program → (items : Result (List Item) ℕ) → hex_words 3 args ≡ items → (r : Result (List ℕ) (List ℕ)) × VmLine check limit program args r
+      by_words None none items is = (Err (refused_hex 2), no_program check limit program args _ none refl)
+      by_words (Some code) some (Err place) err = (Err (refused_hex place), no_argument check limit program args _ code place some err refl)
+      by_words (Some code) some (Ok items) ok =
+          (let says = laws.verdicts.some Nothing check code items limit in (Ok (verdict_line says.0), was_run check limit program args _ code items says.0 some ok says.1 refl))
+
+  -- the verdict on items of which the first is the program
+  abbrev OnItems : Verdict → List Item → Type 0
+  OnItems verdict [] = ⊥
+  OnItems verdict (code ∷ items) = HasVerdict Nothing check code items limit verdict
+
+  one_line : (r s : Result (List ℕ) (List ℕ)) → VmLine check limit program args r → VmLine check limit program args s → r ≡ s
+  one_line r s (misfit {place = p} err) (misfit {place = q} again) = (let same : p ≡ q = cc in ap (λ (n : ℕ). Err (refused_hex n)) same)
+  one_line r s (misfit err) (ran code items ok has) = cc
+  one_line r s (ran code items ok has) (misfit err) = cc
+  one_line r s (ran c i {verdict = v} ok has) (ran d j {verdict = w} again says) =
+      let alike : (d ∷ j) ≡ (c ∷ i) = cc in
+      let verdicts : v ≡ w = laws.verdicts.one Nothing check c i limit v w has (subst (OnItems w) alike says) in
+      ap (λ (x : Verdict). Ok (verdict_line x)) verdicts
+
+  pub vm_check : IsCheck (VmLine check limit program args)
+  vm_check = record { some = some_line; one = one_line }

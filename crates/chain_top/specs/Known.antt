@@ -1,0 +1,28 @@
+-- What the crates below say of all values, together.
+use Rattle.std.specs.Prelude.{◌≡◌, ℕ, List}
+use Rattle.data_model.specs.Files.{BlockFileLaws}
+use Rattle.ledger_core.specs.Laws.{TableLaws, RefusalLaws, ChainLaws}
+use Rattle.ledger_core.specs.Roots.{Hash}
+use Rattle.vm_num.specs.Item.{Item}
+use Rattle.vm_run.specs.Row.{Check}
+use Rattle.vm_run.specs.declared.context.Context.{Context}
+use Rattle.vm_run.specs.Verdict.{HasVerdict}
+use Rattle.vm_run.specs.declared.verdict.Verdict.{Verdict}
+
+-- a program has a verdict, and no two
+pub record VerdictLaws : Type 0 where
+  pub some :
+      (context : Context) (check : Check) (program : List ℕ) (args : List Item) (limit : ℕ)
+      → (verdict : Verdict) × HasVerdict context check program args limit verdict
+  pub one :
+      (context : Context) (check : Check) (program : List ℕ) (args : List Item) (limit : ℕ) (a b : Verdict)
+      → HasVerdict context check program args limit a
+      → HasVerdict context check program args limit b
+      → a ≡ b
+
+pub record Known : Type 0 where
+  pub files : BlockFileLaws
+  pub verdicts : VerdictLaws
+  pub tables : (hash : Hash) (check : Check) → TableLaws hash check
+  pub refusals : (hash : Hash) (check : Check) → RefusalLaws hash check
+  pub chains : (hash : Hash) (check : Check) → ChainLaws hash check

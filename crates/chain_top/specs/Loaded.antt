@@ -1,0 +1,42 @@
+-- What loading a ledger answers, against the definitions.
+use Rattle.std.specs.Prelude.{◌≡◌, ℕ, ◌++◌, ◌∷◌, List, length, Some, Result, Ok, Err}
+use Rattle.data_model.specs.declared.block.Block.{Block}
+use Rattle.vm_run.specs.Row.{Check}
+use Rattle.ledger_core.specs.Chain.{Chain}
+use Rattle.ledger_core.specs.Held.{Held}
+use Rattle.ledger_core.specs.Refusal.{Hash, Refusal}
+use Rattle.ledger_core.specs.Start.{StartRefusal}
+use Rattle.chain_top.specs.Loading.{LoadsAs}
+use Rattle.wire.specs.declared.files.FramesFault.{FramesFault}
+use Rattle.wire.specs.declared.files.FramesFault.TheVariants as frames
+use Rattle.chain_top.specs.declared.load.LoadFault.{LoadFault}
+use Rattle.chain_top.specs.declared.load.LoadFault.TheVariants as faults
+
+abbrev pub of_frames : FramesFault → LoadFault
+of_frames (frames.At index at kind) = faults.Frame index at kind
+of_frames frames.NoMemory = faults.NoMemory
+
+-- the blocks of the ledger, or the fault of its file; want of memory is free
+abbrev pub Loads : Hash → Check → List ℕ → Result Held LoadFault → Type 0
+Loads hash check bytes (Ok ledger) = LoadsAs hash check bytes (Ok ledger.blocks)
+Loads hash check bytes (Err faults.NoMemory) = Unit {0}
+Loads hash check bytes (Err fault) = LoadsAs hash check bytes (Err fault)
+
+-- a block starts no chain
+abbrev pub NotStarted : Hash → Block → LoadFault → Type 0
+NotStarted hash initial (faults.Start why) = StartRefusal hash initial (Some why)
+NotStarted hash initial faults.NoMemory = Unit {0}
+NotStarted hash initial fault = ⊥
+
+-- one of these blocks does not extend those before it, which are a chain
+abbrev pub NotGrown : Hash → Check → List Block → LoadFault → Type 0
+NotGrown hash check blocks (faults.Block index why) =
+    (before : List Block)
+    × (block : Block)
+    × (later : List Block)
+    × (blocks ≡ before ++ block ∷ later)
+    × (index ≡ length before)
+    × Chain hash check before
+    × Refusal hash check before block (Some why)
+NotGrown hash check blocks faults.NoMemory = Unit {0}
+NotGrown hash check blocks fault = ⊥

@@ -1,0 +1,28 @@
+-- What the functions answer that offer blocks, against the model.
+use Rattle.std.specs.Prelude.{◌≡◌, List, OnOk, Result}
+use Rattle.data_model.specs.declared.block.Block.{Block}
+use Rattle.vm_run.specs.Row.{Check}
+use Rattle.ledger_core.specs.Refusal.{Hash}
+use Rattle.outside.specs.Steps.{Step}
+use Rattle.outside.specs.World.{Io}
+use Rattle.chain_top.specs.Offers.{OfferOwes, OffersOwe}
+use Rattle.chain_top.specs.Plan.{done, Does}
+use Rattle.chain_top.specs.Word.{Word}
+use Rattle.chain_top.specs.declared.stop.Stop.{Stop}
+
+-- One block was offered, and what it owes was done up to some step. Where it was all done, the ledger then has the
+-- blocks that the model says.
+pub record OfferDone {T : Type 0} (hash : Hash) (check : Check) (ledger : Word) (blocks : List Block) (block : Block)
+    (later : List Block) (before after : Io) (result : Result T Stop) : Type 0 where
+  pub left : List Block
+  pub steps : List Step
+  pub owes : OfferOwes hash check ledger blocks block left steps
+  pub does : Does (done steps) before after result
+  pub kept : OnOk result (later ≡ left)
+
+-- so were several
+pub record OffersDone {T : Type 0} (hash : Hash) (check : Check) (ledger : Word) (blocks offers : List Block)
+    (before after : Io) (result : Result T Stop) : Type 0 where
+  pub steps : List Step
+  pub owe : OffersOwe hash check ledger blocks offers steps
+  pub does : Does (done steps) before after result
