@@ -3,9 +3,13 @@
 #![tactic(auto)]
 
 mod hashes;
+mod memory;
 mod pile;
 mod signatures;
+mod table;
 
 pub use hashes::{IdHash, Sha256Id};
+pub use memory::NoMemory;
 pub use pile::Pile;
 pub use signatures::{NoSigs, SigCheck};
+pub use table::TableCheck;

@@ -146,8 +146,14 @@ pub const MAX: u8 = 0xa4;
 pub const WITHIN: u8 = 0xa5;
 /// The digest of an item by SHA-256.
 pub const SHA256: u8 = 0xa8;
+/// Whether a signature of a message of 32 bytes is good for a key.
+pub const CHECKSIG: u8 = 0xac;
+/// Whether signatures of a message of 32 bytes are good for keys in their order.
+pub const CHECKMULTISIG: u8 = 0xad;
 /// Pushes the id of the context's block.
 pub const BLOCKHASH: u8 = 0xaf;
+/// Whether a program that is an item succeeds on items of its own, under a limit of its own.
+pub const CHECKPREDICATE: u8 = 0xc0;
 /// Pushes the outermost program of the context.
 pub const PROGRAM: u8 = 0xc4;
 /// Pushes the next program of the context's block.

@@ -14,9 +14,9 @@ mod word;
 
 pub use assembler::{AsmFault, assemble, disassemble};
 use codes::{
-    ADD_ONE, BLOCKHASH, BLOCKTIME, CATPUSHDATA, DATA_MAX, DATA_MIN, FALSE, JUMP, JUMPIF,
-    NEGATIVE_ONE, NEXTPROGRAM, NOP, ONE, PROGRAM, PUSHDATA1, PUSHDATA2, PUSHDATA4, SHA256, VERIFY,
-    WITHIN,
+    ADD_ONE, BLOCKHASH, BLOCKTIME, CATPUSHDATA, CHECKMULTISIG, CHECKPREDICATE, CHECKSIG, DATA_MAX,
+    DATA_MIN, FALSE, JUMP, JUMPIF, NEGATIVE_ONE, NEXTPROGRAM, NOP, ONE, PROGRAM, PUSHDATA1,
+    PUSHDATA2, PUSHDATA4, SHA256, VERIFY, WITHIN,
 };
 use data::{counted, counted_data, jump};
 
@@ -89,7 +89,9 @@ fn is_plain(code: u8) -> bool
             | VERIFY..=CATPUSHDATA
             | ADD_ONE..=WITHIN
             | SHA256
+            | CHECKSIG..=CHECKMULTISIG
             | BLOCKHASH
+            | CHECKPREDICATE
             | PROGRAM
             | NEXTPROGRAM..=BLOCKTIME
     )
