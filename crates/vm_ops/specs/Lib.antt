@@ -2,3 +2,4 @@ pub mod Bits
 pub mod Bytes
 pub mod Line
 pub mod Numbers
+pub mod Signatures

@@ -7,7 +7,9 @@ mod codes;
 mod fault;
 pub mod laws;
 mod numbers;
+mod signatures;
 
 pub use bytes::bytes_row;
 pub use fault::RowFault;
 pub use numbers::number_row;
+pub use signatures::multi_good;
