@@ -1,5 +1,5 @@
 -- What every line of the table keeps: its base cost is at least 1, and it jumps at most to the program's end.
-use Rattle.std.proofs.Common.{◌≡◌, ℕ, ◌+◌, ◌≤◌, Bool, true, false, cond, List, [], ◌∷◌, length, min, max, leb, ltb, eqb, Option, Some, None, Ok, Err, ℤ, pos, negsuc, refl, sym, ◌∙◌, ap, arith}
+use Rattle.std.proofs.Common.{◌≡◌, ℕ, ◌+◌, ◌≤◌, Bool, true, false, cond, List, [], ◌∷◌, length, drop, min, max, leb, ltb, eqb, Option, Some, None, Ok, Err, ℤ, pos, negsuc, refl, sym, ◌∙◌, ap, arith}
 use Rattle.std.specs.Prelude.{bytes_eq, ◌&&◌}
 use Rattle.std.specs.Ordering.{int_eq}
 use Rattle.std.proofs.lemmas.Bool.{cond_both, ltb-false, eqb-true, true≢false}
@@ -10,9 +10,9 @@ use Rattle.vm_code.specs.Instruction.{Decoded, is_jump}
 use Rattle.vm_ops.specs.Line.{Line, line_at-all}
 use Rattle.vm_ops.specs.Bytes.{bytes_line, bytes_base}
 use Rattle.vm_ops.specs.Numbers.{number_line, number_base, number_count}
-use Rattle.vm_run.specs.Effect.{Context, Nothing, Block, BlockContext, Check, Row, Faults, Does, Rule, does, always, needs, on_one, on_two, on_three, on_alt, with_number, on_number, on_two_numbers, on_three_numbers, on_size, on_part, counted, by_count, in_block, push_row}
+use Rattle.vm_run.specs.Effect.{Context, Nothing, Block, BlockContext, Check, Row, Faults, Does, Calls, Rule, does, always, needs, on_one, on_two, on_three, on_alt, with_number, on_number, on_two_numbers, on_three_numbers, on_size, on_part, counted, by_count, in_block, push_row}
 use Rattle.vm_run.specs.Moving.{push_rule, jump_row, jump_if_row, verify_row, to_alt_row, from_alt_row, control_table, control_rule, drops, copies, moves, ifdup_row, nip_row, tuck_row, pick_row, roll_row, stack_table, stack_rule}
-use Rattle.vm_run.specs.Making.{string_row, of_string, of_two_strings, of_size, of_part, size_row, equalverify_row, string_table, string_rule, number_row, of_number, of_two_numbers, of_three_numbers, of_numbers, numequalverify_row, number_table, number_rule, other_table, other_rule}
+use Rattle.vm_run.specs.Making.{string_row, of_string, of_two_strings, of_size, of_part, size_row, equalverify_row, string_table, string_rule, number_row, of_number, of_two_numbers, of_three_numbers, of_numbers, numequalverify_row, number_table, number_rule, call_row, calls, other_table, other_rule}
 use Rattle.vm_run.specs.Row.{row}
 
 -- ---- base costs
@@ -47,6 +47,7 @@ Within size (Some place) = place ≤ size
 abbrev pub Fair : (Option ℕ → Type 0) → Row → Type 0
 Fair P (Faults kind) = Unit {0}
 Fair P (Does e) = (1 ≤ e.base) × P e.jump
+Fair P (Calls program asked count) = Unit {0}
 
 module _ (P : Option ℕ → Type 0) (none : P None) where
   abbrev FairRule : Rule → Type 0
@@ -261,12 +262,23 @@ module _ (P : Option ℕ → Type 0) (none : P None) where
       & two_numbers numequalverify_row (λ x y. either (int_eq x y) _ _ (omega arith, none) tt)
       & tt)
 
+  calling : (below : List Item) (count : ℤ) (program : Item) (asked : ℤ) → Fair P (call_row below count program asked)
+  calling below (pos count) program (pos asked) = either (leb count (length below)) _ _ tt tt
+  calling below (pos count) program (negsuc n) = tt
+  calling below (negsuc n) program asked = tt
+
+  predicate : FairRule calls
+  predicate items alt =
+      triple _ (λ count program asked.
+      numbered _ (λ n. numbered _ (calling (drop 3 items) n program) (num asked)) (num count)) items alt
+
   others : (context : Context) (code : ℕ) → FairRule (other_rule context code)
   unfolding other_rule
   others context code =
       line_at-all FairRule (always (Faults BadOpcode)) (other_table context) code bad
       (string 0xa8
       & of_block (λ b. b.block_id) context
+      & predicate
       & of_block (λ b. b.program) context
       & of_block (λ b. b.next_program) context
       & of_block (λ b. num_bytes (pos b.time)) context

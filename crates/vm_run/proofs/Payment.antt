@@ -1,5 +1,6 @@
 -- Payment for an effect, by cases.
-use Rattle.std.proofs.Common.{◌≡◌, ℕ, ◌+◌, ◌-◌, ◌<◌, ◌≤◌, List, ◌++◌, take, drop, refl, ap, Ok, Err, arith}
+use Rattle.std.proofs.Common.{◌≡◌, ℕ, ◌+◌, ◌-◌, ◌<◌, ◌≤◌, ◌==◌, Bool, true, false, cond, List, ◌++◌, take, drop, refl, ap, Ok, Err, arith}
+use Rattle.std.proofs.lemmas.Bool.{lt-ltb, le-ltb}
 use Rattle.std.proofs.lemmas.Bool.Decides.{nat_tests}
 use Rattle.std.proofs.lemmas.List.Sums.{sum_by-take-drop}
 use Rattle.vm_num.specs.Item.{Item, cost, total_cost}
@@ -7,7 +8,7 @@ use Rattle.vm_num.specs.declared.failure.Failure.TheVariants.{RunLimit}
 use Rattle.vm_run.specs.Effect.{Effect, effect, does}
 use Rattle.vm_run.specs.declared.machine.Machine.{Machine}
 use Rattle.vm_run.specs.declared.fault.StepFault.TheVariants.{Failed}
-use Rattle.vm_run.specs.Run.{Stops, Goes, paid, popped_cost, pushed_cost, next_place}
+use Rattle.vm_run.specs.Run.{Stops, Goes, Opens, paid, popped_cost, pushed_cost, next_place, opened, child_limit}
 use Rattle.vm_run.specs.Follows.{base_of, Follows}
 
 module _ (behind limit : ℕ) (items alt : List Item) (e : Effect) where
@@ -28,6 +29,25 @@ module _ (behind limit : ℕ) (items alt : List Item) (e : Effect) where
 
 pub cost-split : (n : ℕ) (items : List Item) → total_cost (take n items) + total_cost (drop n items) ≡ total_cost items
 cost-split n items = sum_by-take-drop cost items n
+
+-- ---- a child
+
+pub child_limit-within : (asked left : ℕ) → asked ≤ left → child_limit asked left ≤ left
+child_limit-within asked left enough = by (asked == 0)
+  where
+    by : (b : Bool) → cond b left asked ≤ left
+    by true = omega arith
+    by false = enough
+
+module _ (behind limit : ℕ) (items alt : List Item) (program : Item) (asked count : ℕ) where
+  pub short_of_opening : limit < 256 → opened behind items alt limit program asked count ≡ Stops RunLimit
+  short_of_opening short = rw (lt-ltb limit 256 short) refl
+
+  pub short_of_asked : 256 ≤ limit → limit - 256 < asked → opened behind items alt limit program asked count ≡ Stops RunLimit
+  short_of_asked covers short = rw (le-ltb limit 256 covers, lt-ltb (limit - 256) asked short) refl
+
+  pub opening : 256 ≤ limit → asked ≤ limit - 256 → opened behind items alt limit program asked count ≡ Opens (record { program = program; items = take count (drop 3 items); limit = child_limit asked (limit - 256) }) behind (drop count (drop 3 items)) alt (limit - 256 - child_limit asked (limit - 256) + 192 + total_cost (take 3 items))
+  opening covers enough = rw (le-ltb limit 256 covers, le-ltb (limit - 256) asked enough) refl
 
 -- ---- an effect on the data stack of a machine that goes on behind its instruction
 

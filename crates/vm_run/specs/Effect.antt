@@ -29,10 +29,12 @@ pub record Effect : Type 0 where
   pub base : ℕ
   pub jump : Option ℕ
 
--- an instruction fails, or has an effect where the limit allows it
+-- An instruction fails; or it has an effect, where the limit allows it; or it calls a program, which is an item, on so
+-- many of the items below and with the limit that is asked for it.
 pub data Row : Type 0 where
   Faults : Failure → Row
   Does : Effect → Row
+  Calls : (program : Item) (asked count : ℕ) → Row
 
 -- an effect on the data stack alone
 abbrev pub effect : ℕ → List Item → ℕ → Effect

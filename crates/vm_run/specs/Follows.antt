@@ -1,14 +1,17 @@
 -- What the code did to its machine, against the definitions.
-use Rattle.std.specs.Prelude.{◌≡◌, ◌<◌, ◌≤◌, ℕ, ◌+◌, List, ◌∷◌, ◌++◌, take, drop, Result, Ok, Err}
+use Rattle.std.specs.Prelude.{◌≡◌, ◌<◌, ◌≤◌, ℕ, ◌+◌, List, [], ◌∷◌, ◌++◌, length, take, drop, Result, Ok, Err}
 use Rattle.vm_num.specs.Item.{Item, cost, total_cost}
 use Rattle.vm_num.specs.declared.failure.Failure.TheVariants.{RunLimit}
 use Rattle.vm_ops.specs.Line.{Line}
 use Rattle.vm_ops.specs.Bytes.{bytes_base}
+use Rattle.vm_stack.specs.Stacks.{item_at, held_cost}
 use Rattle.vm_run.specs.declared.machine.Machine.{Machine}
+use Rattle.vm_run.specs.declared.step.Done.{Done}
+use Rattle.vm_run.specs.declared.step.Done.TheVariants.{Moved, Opened}
 use Rattle.vm_run.specs.declared.fault.StepFault.{StepFault}
 use Rattle.vm_run.specs.declared.fault.StepFault.TheVariants.{Failed, NoMemory}
 use Rattle.vm_run.specs.Row.{Row}
-use Rattle.vm_run.specs.Run.{Move, Stops, Goes, row_move}
+use Rattle.vm_run.specs.Run.{Move, Stops, Goes, Opens, row_move}
 use Rattle.vm_run.specs.Stretch.{State}
 
 -- a machine as a state of a run
@@ -18,12 +21,24 @@ state_of m = record { place = m.at; items = m.stack.items; alt = m.stack.alt; le
 abbrev pub base_of : Move → ℕ
 base_of (Stops kind) = 0
 base_of (Goes place items alt left base) = base
+base_of (Opens child place items alt left) = 0
 
 -- what an instruction comes to is what was answered, with the machine as it was left; want of memory is free
 abbrev pub Shows : Move → Result (Unit {0}) StepFault → Machine → Type 0
 Shows move (Ok done) m = move ≡ Goes m.at m.stack.items m.stack.alt m.left (base_of move)
 Shows move (Err (Failed kind)) m = move ≡ Stops kind
 Shows move (Err NoMemory) m = Unit {0}
+
+-- so is a step, which may open a child, whose program is the second of the items that are popped for it
+abbrev pub Leads : Move → Result Done StepFault → Machine → Type 0
+Leads move (Ok Moved) m = Shows move (Ok tt) m
+Leads move (Ok (Opened child popped)) m =
+    (1 < length popped.items)
+    × (child.at ≡ 0)
+    × (child.stack.alt ≡ [])
+    × (move ≡ Opens (record { program = item_at 1 popped.items; items = child.stack.items; limit = child.left }) m.at
+    m.stack.items m.stack.alt m.left)
+Leads move (Err fault) m = Shows move (Err fault) m
 
 -- so is a row, on the stacks and the limit of a machine that stands behind its instruction
 abbrev pub Follows : Machine → Row → Result (Unit {0}) StepFault → Machine → Type 0
@@ -62,3 +77,13 @@ abbrev pub Makes : ℕ → Item → Item → Line → Result ℕ StepFault → I
 Makes code a b line (Ok base) item = (line ≡ Ok item) × (base ≡ bytes_base code a b item)
 Makes code a b line (Err (Failed kind)) item = line ≡ Err kind
 Makes code a b line (Err NoMemory) item = Unit {0}
+
+-- as a step leads, so does a row, on the stacks and the limit of a machine that stands behind its instruction
+abbrev pub LeadsBy : Machine → Row → Result Done StepFault → Machine → Type 0
+LeadsBy before row result after =
+    Leads (row_move before.at before.stack.items before.stack.alt before.left row) result after
+
+-- what the child of a step holds
+abbrev pub held_in : Done → ℕ
+held_in Moved = 0
+held_in (Opened child popped) = child.left + held_cost child.stack

@@ -1,14 +1,14 @@
--- The lines that make an item of strings of bytes, of numbers and of the context.
-use Rattle.std.specs.Prelude.{ℕ, ◌+◌, ◌&&◌, ◌||◌, Bool, List, [], ◌∷◌, length, min, Ok, Err, if◌then◌else◌, bytes_eq}
-use Rattle.std.specs.Prelude.{ℤ, pos}
+-- The lines that make an item of strings of bytes, of numbers and of the context, and the line that calls a program.
+use Rattle.std.specs.Prelude.{ℕ, ◌+◌, ◌&&◌, ◌||◌, Bool, List, [], ◌∷◌, length, drop, min, Ok, Err, bytes_eq}
+use Rattle.std.specs.Prelude.{ℤ, pos, negsuc, if◌then◌else◌, nat_le}
 use Rattle.std.specs.Ordering.{int_eq}
-use Rattle.vm_num.specs.Item.{Item, num_bytes, is_true}
-use Rattle.vm_num.specs.declared.failure.Failure.TheVariants.{BadOpcode, VerifyFalse}
+use Rattle.vm_num.specs.Item.{Item, num, num_bytes, is_true}
+use Rattle.vm_num.specs.declared.failure.Failure.TheVariants.{BadOpcode, BadValue, Underflow, VerifyFalse}
 use Rattle.vm_ops.specs.Line.{Line, truth_item, line_at}
 use Rattle.vm_ops.specs.Bytes.{bytes_line, bytes_base}
 use Rattle.vm_ops.specs.Numbers.{number_line, number_base, number_count}
-use Rattle.vm_run.specs.Effect.{Context, Row, Faults, does, push_row, Rule, always, on_one, on_two}
-use Rattle.vm_run.specs.Effect.{on_size, on_part, on_number, on_two_numbers, on_three_numbers, in_block}
+use Rattle.vm_run.specs.Effect.{Context, Row, Faults, Calls, does, push_row, Rule, always, on_one, on_two, on_three}
+use Rattle.vm_run.specs.Effect.{on_size, on_part, with_number, on_number, on_two_numbers, on_three_numbers, in_block}
 
 -- the item of strings of bytes in the place of so many, and its base cost; or the failure
 abbrev pub string_row : ℕ → ℕ → Item → Item → Line → Row
@@ -94,11 +94,24 @@ number_table =
 unfoldable pub number_rule : ℕ → Rule
 number_rule code = line_at (of_numbers code) number_table code
 
--- SHA256, BLOCKHASH, PROGRAM, NEXTPROGRAM, BLOCKTIME
+-- CHECKPREDICATE, by its three items, the deepest first, and the items below them
+abbrev pub call_row : List Item → ℤ → Item → ℤ → Row
+call_row below (pos count) program (pos asked) =
+    if nat_le count (length below) then Calls program asked count else Faults Underflow
+call_row below (pos count) program (negsuc n) = Faults BadValue
+call_row below (negsuc n) program asked = Faults BadValue
+
+abbrev pub calls : Rule
+calls items alt =
+    on_three (λ count program asked.
+    with_number (λ n. with_number (call_row (drop 3 items) n program) (num asked)) (num count)) items alt
+
+-- SHA256, BLOCKHASH, CHECKPREDICATE, PROGRAM, NEXTPROGRAM, BLOCKTIME
 abbrev pub other_table : Context → List (ℕ × Rule)
 other_table context =
     (0xa8, of_string 0xa8)
     ∷ (0xaf, in_block context (λ b. push_row b.block_id))
+    ∷ (0xc0, calls)
     ∷ (0xc4, in_block context (λ b. push_row b.program))
     ∷ (0xcd, in_block context (λ b. push_row b.next_program))
     ∷ (0xce, in_block context (λ b. push_row (num_bytes (pos b.time))))

@@ -1,10 +1,12 @@
 -- What the code reads off a data stack for a line, against what the line needs.
-use Rattle.std.specs.Prelude.{◌≡◌, ◌≤◌, ℕ, ℤ, List, ◌∷◌, length, drop, Result, Ok, Err}
+use Rattle.std.specs.Prelude.{◌≡◌, ◌≤◌, ℕ, ◌+◌, ℤ, List, ◌∷◌, length, drop, Result, Ok, Err}
 use Rattle.std.specs.Borrow.{Bor}
 use Rattle.vm_num.specs.Item.{Item}
 use Rattle.vm_num.specs.declared.failure.Failure.{Failure}
-use Rattle.vm_run.specs.Effect.{Row, Faults, Rule, on_one, on_two, on_number, on_two_numbers, on_three_numbers}
+use Rattle.vm_stack.specs.Stacks.{item_at}
+use Rattle.vm_run.specs.Effect.{Row, Faults, Calls, Rule, on_one, on_two, on_number, on_two_numbers, on_three_numbers}
 use Rattle.vm_run.specs.Effect.{on_size, on_part, by_count}
+use Rattle.vm_run.specs.Making.{calls}
 
 -- at these items every line of a kind is a failure
 abbrev pub Fails : {Operands : Type 0} → (Operands → Rule) → List Item → Failure → Type 0
@@ -54,3 +56,9 @@ IsCount items (Ok n) =
     (1 ≤ length items)
     × ((line : ℕ → List Item → Row) (alt : List Item) → by_count line items alt ≡ line n (drop 1 items))
 IsCount items (Err kind) = Fails by_count items kind
+
+-- a count of items and a limit, of CHECKPREDICATE
+abbrev pub IsCall : List Item → Result (ℕ × ℕ) Failure → Type 0
+IsCall items (Ok p) =
+    (3 + p.0 ≤ length items) × ((alt : List Item) → calls items alt ≡ Calls (item_at 1 items) p.1 p.0)
+IsCall items (Err kind) = (alt : List Item) → calls items alt ≡ Faults kind

@@ -1,16 +1,12 @@
 -- The verdict on a program and its arguments.
-use Rattle.std.specs.Prelude.{◌≡◌, ℕ, ◌-◌, ◌<◌, ◌≤◌, Bool, false, List, [], ◌∷◌, length, reverse, if◌then◌else◌}
-use Rattle.vm_num.specs.Item.{Item, total_cost, is_true}
+use Rattle.std.specs.Prelude.{◌≡◌, ℕ, ◌-◌, ◌<◌, ◌≤◌, List, [], length, reverse, if◌then◌else◌}
+use Rattle.vm_num.specs.Item.{Item, total_cost}
 use Rattle.vm_num.specs.declared.failure.Failure.TheVariants.{RunLimit, FalseResult}
 use Rattle.vm_run.specs.declared.verdict.Verdict.{Verdict}
 use Rattle.vm_run.specs.declared.verdict.Verdict.TheVariants.{Succeeded, Failed}
 use Rattle.vm_run.specs.Row.{Context, Check}
 use Rattle.vm_run.specs.Run.{Outcome, Ended, FailedAt, Run}
-
--- there is a top item, and it is true
-abbrev pub top_is_true : List Item → Bool
-top_is_true [] = false
-top_is_true (t ∷ items) = is_true t
+pub use Rattle.vm_run.specs.Run.{top_is_true}
 
 -- what an outcome says of a program of this length
 abbrev pub verdict_of : ℕ → Outcome → Verdict

@@ -1,12 +1,13 @@
 //! Laws of runs, each the contract of a function with nothing to do.
-ghost use Rattle.std.specs.Prelude.{◌≡◌, ◌<◌, ◌≤◌, ◌^◌, ◌++◌, ℕ, ℤ, List, length};
-ghost use Rattle.vm_num.specs.Item.{Item, num_bytes};
+ghost use Rattle.std.specs.Prelude.{◌≡◌, ◌<◌, ◌≤◌, ◌+◌, ◌^◌, ◌++◌, ℕ, ℤ, List, length};
+ghost use Rattle.vm_num.specs.Item.{Item, num_bytes, total_cost};
 ghost use Rattle.vm_num.specs.Push.{push_of, push_int_of};
 ghost use Rattle.vm_code.specs.Instruction.{instruction_at};
-ghost use Rattle.vm_run.specs.Laws.{StepLaws, StretchLaws};
+ghost use Rattle.vm_run.specs.Laws.{held, StepLaws, StretchLaws};
 ghost use Rattle.vm_run.specs.Pushes.{ReadsData, ReadsPush};
 ghost use Rattle.vm_run.specs.Row.{Context, Check};
-ghost use Rattle.vm_run.specs.Run.{Outcome, Run};
+ghost use Rattle.vm_run.specs.Run.{Outcome, Ended, Run, count_of};
+ghost use Rattle.vm_run.specs.Stretch.{State, RunFrom};
 ghost use Rattle.vm_run.specs.Verdict.{HasVerdict};
 ghost use Rattle.vm_run.specs.declared.verdict.Verdict.{Verdict};
 
@@ -17,6 +18,20 @@ pub fn one_outcome()
         → Run context check program place items alt limit a
         → Run context check program place items alt limit b
         → a ≡ b }
+{}
+
+/// The run-limit law, over nested runs: of a run that ends, what is left, what both stacks hold, what was spent and what
+/// was lost in predicates are together what the limit and the items came to at its start. However a run ends, no more
+/// instructions complete in it than that.
+pub fn run_limit()
+    ensures balance { (context : Context) (check : Check) (program : List ℕ) (s : State)
+        (left : ℕ) (items alt : List Item) (count spent lost : ℕ)
+        → RunFrom context check program s (Ended left items alt count spent lost)
+        → left + (total_cost items + total_cost alt) + spent + lost ≡ held s }
+    ensures bounded { (context : Context) (check : Check) (program : List ℕ) (s : State)
+        (outcome : Outcome)
+        → RunFrom context check program s outcome
+        → count_of outcome ≤ held s }
 {}
 
 /// Completed instructions cost something, join, and run on: the steps of a run compose.

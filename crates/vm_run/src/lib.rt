@@ -11,6 +11,7 @@ mod moving;
 mod numbers;
 mod operands;
 mod other;
+mod predicate;
 mod run;
 mod step;
 mod strings;

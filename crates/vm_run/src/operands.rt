@@ -2,10 +2,11 @@
 ghost use Rattle.std.specs.Prelude.{◌≡◌, Some, None};
 ghost use Rattle.vm_num.specs.Item.{num};
 ghost use Rattle.vm_run.specs.Operands.{IsOne, AreTwo, IsNumber, AreTwoNumbers, AreThreeNumbers, IsSized, IsPart};
-ghost use Rattle.vm_run.specs.Operands.{IsCount};
+ghost use Rattle.vm_run.specs.Operands.{IsCount, IsCall};
+ghost use Rattle.vm_run.specs.Run.{top_is_true};
 
 use keyed::Pile;
-use vm_num::{Failure, read_num};
+use vm_num::{Failure, read_num, truth};
 use vm_stack::Stack;
 
 /// The top item.
@@ -101,5 +102,36 @@ pub fn count(stack: &Stack) -> Result<u64, Failure>
             None => Err(Failure::BadNumber),
         },
         None => Err(Failure::Underflow),
+    }
+}
+
+/// The count of items and the limit that CHECKPREDICATE takes, with a program between them; so many items are below.
+pub fn called(stack: &Stack) -> Result<(u64, u64), Failure>
+    ensures { IsCall stack.now.items result }
+{
+    match (stack.item(2), stack.item(0)) {
+        (Some(n), Some(l)) => match (read_num(n), read_num(l)) {
+            (Some(count), Some(limit)) => {
+                if count < 0 || limit < 0 {
+                    return Err(Failure::BadValue);
+                }
+                if stack.depth() - 3 < count as u64 {
+                    return Err(Failure::Underflow);
+                }
+                Ok((count as u64, limit as u64))
+            }
+            _ => Err(Failure::BadNumber),
+        },
+        _ => Err(Failure::Underflow),
+    }
+}
+
+/// Whether there is a top item, and it is true.
+pub fn top_is_true(stack: &Stack) -> bool
+    ensures { result ≡ top_is_true stack.now.items }
+{
+    match stack.item(0) {
+        Some(t) => truth(t),
+        None => false,
     }
 }

@@ -19,6 +19,7 @@ impl Machine {
         code: u8,
         scratch: &mut Vec<u8>,
     ) -> Result<(), StepFault>
+        requires other { code ≢ 0xc0 }
         requires time { TimeFits ctx.now }
         requires small { self.old.left + held_cost self.old.stack < 2 ^ 63 }
         ensures { Follows self.old (other_rule ctx.now code self.old.stack.items self.old.stack.alt) result self.new }
@@ -37,6 +38,7 @@ impl Machine {
     #[tactic(auto, unfolding(crate::specs::Making::other_rule))]
     fn block_line(&mut self, block: &BlockContext, code: u8) -> Result<(), StepFault>
         requires other { code ≢ 0xa8 }
+        requires simple { code ≢ 0xc0 }
         requires time { block.now.time < 2 ^ 63 }
         requires small { self.old.left + held_cost self.old.stack < 2 ^ 63 }
         ensures { Follows self.old (other_rule (Block block.now) code self.old.stack.items self.old.stack.alt) result

@@ -5,8 +5,9 @@ ghost use Rattle.vm_run.specs.Ends.{Ends};
 ghost use Rattle.vm_run.specs.Row.{TimeFits};
 
 use crate::machine::Machine;
+use crate::step::Done;
 use crate::{Context, NoMemory, StepFault};
-use keyed::SigCheck;
+use keyed::{Pile, SigCheck};
 use vm_num::Failure;
 
 /// How a run ends.
@@ -18,7 +19,8 @@ pub enum End {
     Failed { kind: Failure, at: u64 },
 }
 
-/// Runs a program from the machine's place on, and leaves the machine as it is at the end.
+/// Runs a program from the machine's place on, and leaves the machine as it is at the end. It calls itself for each
+/// child.
 pub fn run<C: SigCheck>(
     machine: &mut Machine,
     ctx: &Context,
@@ -34,7 +36,14 @@ pub fn run<C: SigCheck>(
     while machine.at < program.len() as u64 {
         let at = machine.at;
         match machine.step(ctx, sigs, program, scratch) {
-            Ok(()) => {}
+            Ok(Done::Moved) => {}
+            Ok(Done::Opened { mut child, popped }) => {
+                let Some(called) = popped.item(1) else {
+                    unreachable!()
+                };
+                let end = run(&mut child, ctx, sigs, called, scratch)?;
+                machine.close(&child, end)?;
+            }
             Err(StepFault::Failed(kind)) => return Ok(End::Failed { kind, at }),
             Err(StepFault::NoMemory) => return Err(NoMemory),
         }

@@ -1,17 +1,27 @@
 // One step of a run.
-ghost use Rattle.std.specs.Prelude.{◌≡◌, ◌<◌, ◌≤◌, ◌+◌, ◌^◌, length, OnOk};
+ghost use Rattle.std.specs.Prelude.{◌≡◌, ◌≢◌, ◌<◌, ◌≤◌, ◌+◌, ◌^◌, length, OnOk, IfOk};
 ghost use Rattle.vm_code.specs.Seen.{seen};
 ghost use Rattle.vm_stack.specs.Stacks.{held_cost};
-ghost use Rattle.vm_run.specs.Follows.{Follows, Shows};
+ghost use Rattle.vm_run.specs.Follows.{Follows, Leads, LeadsBy, held_in};
 ghost use Rattle.vm_run.specs.Row.{TimeFits, rule};
 ghost use Rattle.vm_run.specs.Run.{move};
 
 use crate::machine::Machine;
 use crate::{Context, StepFault};
 use keyed::SigCheck;
-use vm_code::codes::{ADD_ONE, CATPUSHDATA, FROMALTSTACK, SIXTEEN, TUCK, WITHIN};
+use vm_code::codes::{ADD_ONE, CATPUSHDATA, CHECKPREDICATE, FROMALTSTACK, SIXTEEN, TUCK, WITHIN};
 use vm_code::{CodeFault, Instruction, next};
 use vm_num::Failure;
+use vm_stack::Stack;
+
+/// What a step came to.
+#[derive(Drop)]
+pub enum Done {
+    /// The instruction is complete.
+    Moved,
+    /// It is once this child has run, on the program that is the second of the items that were popped for it.
+    Opened { child: Machine, popped: Stack },
+}
 
 impl Machine {
     /// Runs the instruction at the machine's place. `scratch` is used for what it makes.
@@ -21,16 +31,16 @@ impl Machine {
         _sigs: &C,
         program: &[u8],
         scratch: &mut Vec<u8>,
-    ) -> Result<(), StepFault>
+    ) -> Result<Done, StepFault>
         requires place { self.old.at < length program.now }
         requires small { self.old.left + held_cost self.old.stack < 2 ^ 63 }
         requires time { TimeFits ctx.now }
-        ensures moves { Shows (move ctx.now (C.good_of _sigs.now) program.now self.old.at self.old.stack.items
+        ensures moves { Leads (move ctx.now (C.good_of _sigs.now) program.now self.old.at self.old.stack.items
             self.old.stack.alt self.old.left) result self.new }
 
-        // What is left and what is held fall together.
-        ensures falls { OnOk result (self.new.left + held_cost self.new.stack < self.old.left + held_cost
-            self.old.stack) }
+        // What is left and what is held fall together, those of a child counted.
+        ensures falls { IfOk result (λ done. self.new.left + held_cost self.new.stack + held_in done < self.old.left
+            + held_cost self.old.stack) }
         ensures place { OnOk result (self.new.at ≤ length program.now) }
     {
         match next(program, self.at) {
@@ -51,7 +61,30 @@ impl Machine {
         i: &Instruction<'_>,
         size: u64,
         scratch: &mut Vec<u8>,
+    ) -> Result<Done, StepFault>
+        requires small { self.old.left + held_cost self.old.stack < 2 ^ 63 }
+        requires time { TimeFits ctx.now }
+        ensures { LeadsBy self.old (rule ctx.now (seen i.now) size self.old.stack.items self.old.stack.alt) result
+            self.new }
+    {
+        if i.code == CHECKPREDICATE {
+            return self.open();
+        }
+        match self.line(ctx, i, size, scratch) {
+            Ok(()) => Ok(Done::Moved),
+            Err(fault) => Err(fault),
+        }
+    }
+
+    // The same for every code but CHECKPREDICATE.
+    fn line(
+        &mut self,
+        ctx: &Context,
+        i: &Instruction<'_>,
+        size: u64,
+        scratch: &mut Vec<u8>,
     ) -> Result<(), StepFault>
+        requires other { i.now.code ≢ 0xc0 }
         requires small { self.old.left + held_cost self.old.stack < 2 ^ 63 }
         requires time { TimeFits ctx.now }
         ensures { Follows self.old (rule ctx.now (seen i.now) size self.old.stack.items self.old.stack.alt) result

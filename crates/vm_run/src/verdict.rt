@@ -6,11 +6,12 @@ ghost use Rattle.vm_run.specs.Run.{Outcome, count_of};
 ghost use Rattle.vm_run.specs.Verdict.{RunOn, HasVerdict};
 
 use crate::machine::Machine;
+use crate::operands::top_is_true;
 use crate::run::{End, run};
 use crate::{Context, NoMemory};
-use keyed::{Pile, SigCheck};
+use keyed::SigCheck;
 use std::alloc::Global;
-use vm_num::{Failure, truth};
+use vm_num::Failure;
 use vm_stack::Stack;
 use wire::{Args, Bytes};
 
@@ -25,7 +26,7 @@ pub enum Verdict {
 
 /// Runs a program on its arguments, the first of them deepest, in a context and under a run limit below 2^63. The
 /// arguments are paid for first; where the limit does not cover them, the program fails with `RunLimit` at 0. `sigs`
-/// says which signatures are good; no instruction asks for one yet.
+/// says which signatures are good.
 pub fn verify<C: SigCheck>(
     alloc: Global,
     ctx: &Context,
@@ -38,7 +39,7 @@ pub fn verify<C: SigCheck>(
     requires time { TimeFits ctx.now }
     ensures verdict { IfOk result (HasVerdict ctx.now (C.good_of sigs.now) program.now args.now limit) }
 
-    // No more instructions complete than the limit says.
+    // No more instructions complete than the limit says, over all nested predicates together.
     ensures bounded { total_cost args.now ≤ limit
         → (outcome : Outcome)
         → RunOn ctx.now (C.good_of sigs.now) program.now args.now limit outcome
@@ -111,12 +112,10 @@ fn verdict_on(end: End, machine: &Machine, size: u64) -> Verdict
 {
     match end {
         End::Failed { kind, at } => Verdict::Failed { kind, at },
-        End::Ended => match machine.stack.item(0) {
-            Some(t) if truth(t) => Verdict::Succeeded { left: machine.left },
-            _ => Verdict::Failed {
-                kind: Failure::FalseResult,
-                at: size,
-            },
+        End::Ended if top_is_true(&machine.stack) => Verdict::Succeeded { left: machine.left },
+        End::Ended => Verdict::Failed {
+            kind: Failure::FalseResult,
+            at: size,
         },
     }
 }

@@ -1,0 +1,72 @@
+-- A child that has run.
+use Rattle.std.proofs.Common.{◌≡◌, ℕ, ◌+◌, ◌<◌, ◌≤◌, Bool, true, false, cond, List, [], ◌∷◌, length, Some, Ok, refl, sym, subst, arith}
+use Rattle.std.specs.Prelude.{slice_get}
+use Rattle.vm_num.specs.Item.{Item}
+use Rattle.vm_stack.specs.Stacks.{Stacks, item_at, held_cost}
+use Rattle.vm_run.specs.declared.machine.Machine.{Machine}
+use Rattle.vm_run.specs.declared.run.End.{End}
+use Rattle.vm_run.specs.declared.run.End.TheVariants as ends
+use Rattle.vm_run.specs.declared.step.Done.TheVariants.{Moved, Opened}
+use Rattle.vm_run.specs.Row.{Context, Check}
+use Rattle.vm_run.specs.Run.{Outcome, Ended, FailedAt, Child, Move, Opens, count_of, spent_in, lost_in, with_result, left_behind, top_is_true, move, Run}
+use Rattle.vm_run.specs.Stretch.{State, RunFrom, RunIn, Completes, alone, with_child}
+use Rattle.vm_run.specs.Ends.{Ends, Closed, given_by}
+use Rattle.vm_run.specs.Follows.{Leads, state_of, base_of}
+use Rattle.vm_run.proofs.Runs.{balanced, at_step, counts-one}
+
+pub second : (items : List Item) (item : Item) → Some item ≡ slice_get items 1 → item_at 1 items ≡ item
+second [] item is = cc
+second (a ∷ []) item is = cc
+second (a ∷ b ∷ items) item is = cc
+
+module _ (context : Context) (check : Check) where
+  -- a child's run, by the machine that it was opened with
+  run_in : (child : Machine) (program called : List ℕ) (inner : Outcome) → program ≡ called → child.at ≡ 0 → child.stack.alt ≡ [] → RunFrom context check called (state_of child) inner → RunIn context check (record { program = program; items = child.stack.items; limit = child.left }) inner
+  run_in child program called inner is place alt run =
+      subst (λ (p : List ℕ). Run context check p 0 child.stack.items [] child.left inner) (sym is)
+      (subst (λ (a : List Item). Run context check called 0 child.stack.items a child.left inner) alt
+      (subst (λ (n : ℕ). Run context check called n child.stack.items child.stack.alt child.left inner) place run))
+
+  state-is : (m' : Machine) (place left : ℕ) (both : Stacks) → m'.at ≡ place → m'.stack ≡ both → m'.left ≡ left → record { place = place; items = both.items; alt = both.alt; left = left } ≡ state_of m'
+  state-is m' place left both at stack rest = rw (at, stack, rest) refl
+
+  -- a machine that took back what a child left, whose run had this outcome, stands behind a completed instruction
+  behind : (at : Move) (m child m' : Machine) (popped : Stacks) (called : List ℕ) (inner : Outcome) → Leads at (Ok (Opened child popped)) m → Some called ≡ slice_get popped.items 1 → RunFrom context check called (state_of child) inner → m'.stack ≡ record m.stack { items = with_result inner m.stack.items } → m'.at ≡ m.at → m'.left ≡ left_behind inner m.left → (n spent lost : ℕ) × Completes context check at (state_of m') n spent lost
+  behind at m child m' popped called inner leads item run stack place left =
+      let opened : Child = record { program = item_at 1 popped.items; items = child.stack.items; limit = child.left } in
+      let ran = run_in child (item_at 1 popped.items) called inner (second popped.items called item) leads.1 leads.2 run in
+      let state = state-is m' m.at (left_behind inner m.left) (record m.stack { items = with_result inner m.stack.items }) place stack left in (
+        count_of inner + 1,
+        spent_in inner + 64,
+        lost_in opened inner,
+        subst (λ (move : Move). Completes context check move (state_of m') (count_of inner + 1) (spent_in inner + 64) (lost_in opened inner)) (sym leads.3)
+            (subst (λ (s : State). Completes context check (Opens opened m.at m.stack.items m.stack.alt m.left) s (count_of inner + 1) (spent_in inner + 64) (lost_in opened inner)) state (with_child ran)),
+      )
+
+  -- a child gives back no more than it was opened with
+  pub given-within : (called : List ℕ) (child child' : Machine) (end : End) → Ends context check called child (Ok end) child' → given_by end child' ≤ child.left + held_cost child.stack
+  given-within called child child' ends.Ended run = by (top_is_true child'.stack.items)
+    where
+      by : (b : Bool) → cond b (child'.left + held_cost child'.stack) 0 ≤ child.left + held_cost child.stack
+      by true = omega (arith, (balanced run.3).0)
+      by false = omega arith
+  given-within called child child' (ends.Failed kind place) run = omega arith
+
+  pub goes : (at : Move) (m : Machine) → Leads at (Ok Moved) m → Completes context check at (state_of m) 1 (base_of at) 0
+  goes at m leads = subst (λ (move : Move). Completes context check move (state_of m) 1 (base_of at) 0) (sym leads) alone
+
+  closes : (at : Move) (m child child' m' : Machine) (popped : Stacks) (called : List ℕ) (end : End) → Leads at (Ok (Opened child popped)) m → Some called ≡ slice_get popped.items 1 → Ends context check called child (Ok end) child' → Closed end child' m m' → (n spent lost : ℕ) × Completes context check at (state_of m') n spent lost
+  closes at m child child' m' popped called ends.Ended leads item run closed =
+      behind at m child m' popped called (Ended child'.left child'.stack.items child'.stack.alt run.0 run.1 run.2) leads item run.3 closed.0 closed.1 closed.2
+  closes at m child child' m' popped called (ends.Failed kind place) leads item run closed =
+      behind at m child m' popped called (FailedAt kind place run.0) leads item run.1 closed.0 closed.1 closed.2
+
+  -- so from a machine through an opened child to one that closed it
+  pub through : (program : List ℕ) (from m child child' m' : Machine) (popped : Stacks) (called : List ℕ) (end : End) → Leads (move context check program from.at from.stack.items from.stack.alt from.left) (Ok (Opened child popped)) m → Some called ≡ slice_get popped.items 1 → Ends context check called child (Ok end) child' → Closed end child' m m' → ((n spent lost : ℕ) × Completes context check (move context check program from.at from.stack.items from.stack.alt from.left) (state_of m') n spent lost) × (m'.left + held_cost m'.stack < from.left + held_cost from.stack) × (m'.at ≤ length program)
+  through program from m child child' m' popped called end leads item run closed =
+      let done = closes (move context check program from.at from.stack.items from.stack.alt from.left) m child child' m' popped called end leads item run closed in
+      let n : ℕ = done.0 in
+      let spent : ℕ = done.1 in
+      let lost : ℕ = done.2 in
+      let sums = at_step context check program (state_of from) (state_of m') n spent lost done.3 in
+      (done, omega (arith, sums.0, sums.1, counts-one context check _ _ n spent lost done.3), sums.2)

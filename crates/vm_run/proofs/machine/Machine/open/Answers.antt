@@ -1,0 +1,20 @@
+use Rattle.std.proofs.Common.{◌≡◌, ◌-◌, [], take, drop, refl, ◌∙◌, ap, arith}
+use Rattle.vm_stack.specs.Stacks.{Stacks}
+use Rattle.vm_run.specs.Run.{child_limit}
+use Rattle.vm_run.proofs.Opened.{opens}
+use Rattle.vm_run.proofs.machine.Machine.open.Goals as goal
+use Rattle.vm_run.proofs.machine.Machine.open.Goals.{then-asked-eq0, else-asked-eq0}
+
+pub returns : goal.returns
+returns c =
+    let m = c.args.self.now in
+    let call = c.in_ok-count.ensures in
+    let given : c.if-asked-eq0.limit ≡ child_limit c.in_ok-count.asked (m.left - 256) = elim c.if-asked-eq0.branch [
+      | then-asked-eq0 w ↦ grind (arith, w.if-asked-eq0.true, w.limit-is)
+      | else-asked-eq0 w ↦ grind (arith, w.if-asked-eq0.false, w.limit-is)
+    ] in
+    let below : Stacks → Stacks = λ s. record s { items = drop c.in_ok-count.count s.items } in
+    let taken : Stacks → Stacks = λ s. record { items = take c.in_ok-count.count s.items; alt = [] } in
+    let first = c.in-Ok.ensures in
+    let second = c.in-Ok-split_top.ensures in
+    opens m _ c.in-Ok-split_top.moved c.in-Ok.popped c.in_ok-count.count c.in_ok-count.asked c.if-asked-eq0.limit (call.1 m.stack.alt) call.0 c.if-self-lt256.false c.if-self-asked.false given first.top (second.top ∙ ap taken first.left) (second.left ∙ ap below first.left) refl (omega (arith, c.held.ensures))

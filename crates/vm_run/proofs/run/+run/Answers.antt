@@ -1,0 +1,67 @@
+use Rattle.std.proofs.Common.{arith}
+use Rattle.vm_run.specs.Run.{at_end, fails}
+use Rattle.vm_run.specs.Stretch.{none, and_one}
+use Rattle.vm_run.proofs.Runs.{repaid}
+use Rattle.vm_run.proofs.Stretches.{and_steps, then_run}
+use Rattle.vm_run.proofs.Closed.{given-within, goes, through}
+use Rattle.vm_run.proofs.run.+run.Goals as goal
+
+pub loop-machine-init : goal.loop-machine-init
+loop-machine-init g t c = record { place = c.requires.place; within = omega arith; steps = (0, 0, 0, none) }
+
+pub loop-machine-preserved-in-Ok-Moved : goal.loop-machine-preserved-in-Ok-Moved
+loop-machine-preserved-in-Ok-Moved g t c =
+    let at = c.loop-machine.invariant in
+    let check = g.C.SigCheck.good_of c.args.sigs.now in
+    let leads = rw c.in-Ok-Moved.field-0-is at c.in-Ok-Moved.ensures.moves in
+    let done = goes c.args.ctx.now check _ c.step.new.self leads in
+    let falls = rw c.in-Ok-Moved.field-0-is at c.in-Ok-Moved.ensures.falls in
+    record {
+      place = c.in-Ok-Moved.ensures.place;
+      within = omega (arith, at.within, falls);
+      steps = (_, _, _, and_steps c.args.ctx.now check c.args.program.now at.steps.3 (and_one c.loop-machine-test.true done none));
+    }
+
+pub close-requires-clause-covered : goal.close-requires-clause-covered
+close-requires-clause-covered g t c =
+    let m = c.loop-machine.machine in
+    let leads = rw c.in-Ok-Opened.field-0-is at c.in-Ok-Opened.ensures.moves in
+    omega (arith, repaid c.args.ctx.now (g.C.SigCheck.good_of c.args.sigs.now) c.args.program.now m.at m.stack.items m.stack.alt m.left c.in-Ok-Opened.child c.in-Ok-Opened.popped c.step.new.self leads)
+
+pub close-requires-clause-small : goal.close-requires-clause-small
+close-requires-clause-small g t c =
+    let at = c.loop-machine.invariant in
+    let falls = rw c.in-Ok-Opened.field-0-is at c.in-Ok-Opened.ensures.falls in
+    let given = given-within c.args.ctx.now (g.C.SigCheck.good_of c.args.sigs.now) c.in-Some.called.now c.in-Ok-Opened.child c.run.new.machine c.in_ok-end-in-Ok-Opened.end c.in_ok-end-in-Ok-Opened.ensures in
+    omega (arith, at.within, c.requires.small, falls, given)
+
+pub loop-machine-smaller : goal.loop-machine-smaller
+loop-machine-smaller g t c =
+    let leads = rw c.in-Ok-Opened.field-0-is at c.in-Ok-Opened.ensures.moves in
+    omega (arith, (through c.args.ctx.now (g.C.SigCheck.good_of c.args.sigs.now) c.args.program.now c.loop-machine.machine c.step.new.self c.in-Ok-Opened.child c.run.new.machine c.close.new.self c.in-Ok-Opened.popped c.in-Some.called.now c.in_ok-end-in-Ok-Opened.end leads c.in-Some.ensures.item c.in_ok-end-in-Ok-Opened.ensures c.in_ok-close-in-Ok-Opened.ensures).1)
+
+pub loop-machine-preserved : goal.loop-machine-preserved
+loop-machine-preserved g t c =
+    let at = c.loop-machine.invariant in
+    let check = g.C.SigCheck.good_of c.args.sigs.now in
+    let leads = rw c.in-Ok-Opened.field-0-is at c.in-Ok-Opened.ensures.moves in
+    let done = through c.args.ctx.now check c.args.program.now c.loop-machine.machine c.step.new.self c.in-Ok-Opened.child c.run.new.machine c.close.new.self c.in-Ok-Opened.popped c.in-Some.called.now c.in_ok-end-in-Ok-Opened.end leads c.in-Some.ensures.item c.in_ok-end-in-Ok-Opened.ensures c.in_ok-close-in-Ok-Opened.ensures in
+    record {
+      place = done.2;
+      within = omega (arith, at.within, done.1);
+      steps = (_, _, _, and_steps c.args.ctx.now check c.args.program.now at.steps.3 (and_one c.loop-machine-test.true done.0.3 none));
+    }
+
+pub returns-in-Err-Failed : goal.returns-in-Err-Failed
+returns-in-Err-Failed g t c =
+    let at = c.loop-machine.invariant in
+    let check = g.C.SigCheck.good_of c.args.sigs.now in
+    let stops = rw c.in-Err-Failed.field-0-is at c.in-Err-Failed.ensures.moves in
+    (_, then_run c.args.ctx.now check c.args.program.now at.steps.3 (fails c.loop-machine-test.true stops))
+
+pub returns : goal.returns
+returns g t c =
+    let at = c.loop-machine.invariant in
+    let check = g.C.SigCheck.good_of c.args.sigs.now in
+    let end = at_end (omega (arith, at.place)) in
+    (_, _, _, then_run c.args.ctx.now check c.args.program.now at.steps.3 end)
