@@ -1,4 +1,4 @@
--- A child that has run.
+-- Steps of the code, and children that have run.
 use Rattle.std.proofs.Common.{◌≡◌, ℕ, ◌+◌, ◌<◌, ◌≤◌, Bool, true, false, cond, List, [], ◌∷◌, length, Some, Ok, refl, sym, subst, arith}
 use Rattle.std.specs.Prelude.{slice_get}
 use Rattle.vm_num.specs.Item.{Item}
@@ -9,10 +9,11 @@ use Rattle.vm_run.specs.declared.run.End.TheVariants as ends
 use Rattle.vm_run.specs.declared.step.Done.TheVariants.{Moved, Opened}
 use Rattle.vm_run.specs.Row.{Context, Check}
 use Rattle.vm_run.specs.Run.{Outcome, Ended, FailedAt, Child, Move, Opens, count_of, spent_in, lost_in, with_result, left_behind, top_is_true, move, Run}
-use Rattle.vm_run.specs.Stretch.{State, RunFrom, RunIn, Completes, alone, with_child}
+use Rattle.vm_run.specs.Stretch.{State, RunFrom, RunIn, Completes, alone, with_child, Steps, none, and_one}
 use Rattle.vm_run.specs.Ends.{Ends, Closed, given_by}
 use Rattle.vm_run.specs.Follows.{Leads, state_of, base_of}
 use Rattle.vm_run.proofs.Runs.{balanced, at_step, counts-one}
+use Rattle.vm_run.proofs.Stretches.{and_steps}
 
 pub second : (items : List Item) (item : Item) → Some item ≡ slice_get items 1 → item_at 1 items ≡ item
 second [] item is = cc
@@ -52,21 +53,35 @@ module _ (context : Context) (check : Check) where
       by false = omega arith
   given-within called child child' (ends.Failed kind place) run = omega arith
 
-  pub goes : (at : Move) (m : Machine) → Leads at (Ok Moved) m → Completes context check at (state_of m) 1 (base_of at) 0
-  goes at m leads = subst (λ (move : Move). Completes context check move (state_of m) 1 (base_of at) 0) (sym leads) alone
-
   closes : (at : Move) (m child child' m' : Machine) (popped : Stacks) (called : List ℕ) (end : End) → Leads at (Ok (Opened child popped)) m → Some called ≡ slice_get popped.items 1 → Ends context check called child (Ok end) child' → Closed end child' m m' → (n spent lost : ℕ) × Completes context check at (state_of m') n spent lost
   closes at m child child' m' popped called ends.Ended leads item run closed =
       behind at m child m' popped called (Ended child'.left child'.stack.items child'.stack.alt run.0 run.1 run.2) leads item run.3 closed.0 closed.1 closed.2
   closes at m child child' m' popped called (ends.Failed kind place) leads item run closed =
       behind at m child m' popped called (FailedAt kind place run.0) leads item run.1 closed.0 closed.1 closed.2
 
-  -- so from a machine through an opened child to one that closed it
-  pub through : (program : List ℕ) (from m child child' m' : Machine) (popped : Stacks) (called : List ℕ) (end : End) → Leads (move context check program from.at from.stack.items from.stack.alt from.left) (Ok (Opened child popped)) m → Some called ≡ slice_get popped.items 1 → Ends context check called child (Ok end) child' → Closed end child' m m' → ((n spent lost : ℕ) × Completes context check (move context check program from.at from.stack.items from.stack.alt from.left) (state_of m') n spent lost) × (m'.left + held_cost m'.stack < from.left + held_cost from.stack) × (m'.at ≤ length program)
-  through program from m child child' m' popped called end leads item run closed =
-      let done = closes (move context check program from.at from.stack.items from.stack.alt from.left) m child child' m' popped called end leads item run closed in
-      let n : ℕ = done.0 in
-      let spent : ℕ = done.1 in
-      let lost : ℕ = done.2 in
-      let sums = at_step context check program (state_of from) (state_of m') n spent lost done.3 in
-      (done, omega (arith, sums.0, sums.1, counts-one context check _ _ n spent lost done.3), sums.2)
+  abbrev move_of : List ℕ → Machine → Move
+  move_of program m = move context check program m.at m.stack.items m.stack.alt m.left
+
+  -- steps from one machine to another, where less is left and held, and the place is within the program
+  abbrev pub Stepped : List ℕ → Machine → Machine → Type 0
+  Stepped program m m' =
+      ((n spent lost : ℕ) × Steps context check program (state_of m) n spent lost (state_of m'))
+      × (m'.left + held_cost m'.stack < m.left + held_cost m.stack)
+      × (m'.at ≤ length program)
+
+  stepped : (program : List ℕ) (m m' : Machine) → m.at < length program → (n spent lost : ℕ) × Completes context check (move_of program m) (state_of m') n spent lost → Stepped program m m'
+  stepped program m m' before done =
+      let sums = at_step context check program (state_of m) (state_of m') done.0 done.1 done.2 done.3 in
+      ((_, _, _, and_one before done.3 none), omega (arith, sums.0, sums.1, counts-one context check _ _ done.0 done.1 done.2 done.3), sums.2)
+
+  pub and_stepped : (program : List ℕ) (from m m' : Machine) → (n spent lost : ℕ) × Steps context check program (state_of from) n spent lost (state_of m) → Stepped program m m' → (n spent lost : ℕ) × Steps context check program (state_of from) n spent lost (state_of m')
+  and_stepped program from m m' steps step = (_, _, _, and_steps context check program steps.3 step.0.3)
+
+  -- an instruction that opens no child, and one that opens a child, which is then closed
+  pub moved : (program : List ℕ) (m m' : Machine) → m.at < length program → Leads (move_of program m) (Ok Moved) m' → Stepped program m m'
+  moved program m m' before leads =
+      stepped program m m' before (1, base_of (move_of program m), 0, subst (λ (at : Move). Completes context check at (state_of m') 1 (base_of (move_of program m)) 0) (sym leads) alone)
+
+  pub closed : (program : List ℕ) (m o child child' m' : Machine) (popped : Stacks) (called : List ℕ) (end : End) → m.at < length program → Leads (move_of program m) (Ok (Opened child popped)) o → Some called ≡ slice_get popped.items 1 → Ends context check called child (Ok end) child' → Closed end child' o m' → Stepped program m m'
+  closed program m o child child' m' popped called end before leads item run closing =
+      stepped program m m' before (closes (move_of program m) o child child' m' popped called end leads item run closing)

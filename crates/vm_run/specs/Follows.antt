@@ -29,7 +29,7 @@ Shows move (Ok done) m = move ≡ Goes m.at m.stack.items m.stack.alt m.left (ba
 Shows move (Err (Failed kind)) m = move ≡ Stops kind
 Shows move (Err NoMemory) m = Unit {0}
 
--- so is a step, which may open a child, whose program is the second of the items that are popped for it
+-- the same of a step, which may open a child; the program is the second of the items that were popped for it
 abbrev pub Leads : Move → Result Done StepFault → Machine → Type 0
 Leads move (Ok Moved) m = Shows move (Ok tt) m
 Leads move (Ok (Opened child popped)) m =
@@ -78,7 +78,7 @@ Makes code a b line (Ok base) item = (line ≡ Ok item) × (base ≡ bytes_base 
 Makes code a b line (Err (Failed kind)) item = line ≡ Err kind
 Makes code a b line (Err NoMemory) item = Unit {0}
 
--- as a step leads, so does a row, on the stacks and the limit of a machine that stands behind its instruction
+-- the same of a row, on the stacks and the limit of a machine that stands behind its instruction
 abbrev pub LeadsBy : Machine → Row → Result Done StepFault → Machine → Type 0
 LeadsBy before row result after =
     Leads (row_move before.at before.stack.items before.stack.alt before.left row) result after

@@ -52,7 +52,7 @@ stretch_move context check from code s =
     instruction_move context check (from + length code) s.place s.items s.alt s.left
     (instruction_at code (s.place - from))
 
--- so many completed instructions, each of them in the stretch or in a child, lead from one state to another
+-- so many completed instructions, those of children counted and all others in the stretch, lead from a state to another
 pub data Stretch (context : Context) (check : Check) (from : ℕ) (code : List ℕ)
     : State → ℕ → ℕ → ℕ → State → Type 0 where
   nothing : {s : State} → Stretch context check from code s 0 0 0 s
@@ -68,8 +68,8 @@ pub data Stretch (context : Context) (check : Check) (from : ℕ) (code : List �
 abbrev pub further : ℕ → State → State
 further n s = record s { place = n + s.place }
 
--- So many completed instructions, each of them in a child or in the code and there none a jump, lead from one state to
--- another; places are counted from the code's start. Such a stretch may stand anywhere.
+-- So many completed instructions, those of children counted and all others in the code and none a jump, lead from one
+-- state to another; places are counted from the code's start. Such a stretch may stand anywhere.
 pub data Straight (context : Context) (check : Check) (code : List ℕ) : State → ℕ → ℕ → ℕ → State → Type 0 where
   no_more : {s : State} → Straight context check code s 0 0 0 s
   straight_on :

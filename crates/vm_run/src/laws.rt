@@ -20,9 +20,9 @@ pub fn one_outcome()
         → a ≡ b }
 {}
 
-/// The run-limit law, over nested runs: of a run that ends, what is left, what both stacks hold, what was spent and what
-/// was lost in predicates are together what the limit and the items came to at its start. However a run ends, no more
-/// instructions complete in it than that.
+/// The run-limit law, over nested runs. Of a run that ends, what is left, what both stacks hold, what was spent and
+/// what was lost in predicates are together what the limit and the items came to at its start. However a run ends, no
+/// more instructions complete in it than that.
 pub fn run_limit()
     ensures balance { (context : Context) (check : Check) (program : List ℕ) (s : State)
         (left : ℕ) (items alt : List Item) (count spent lost : ℕ)

@@ -1,9 +1,9 @@
 use Rattle.std.proofs.Common.{arith}
 use Rattle.vm_run.specs.Run.{at_end, fails}
-use Rattle.vm_run.specs.Stretch.{none, and_one}
+use Rattle.vm_run.specs.Stretch.{none}
 use Rattle.vm_run.proofs.Runs.{repaid}
-use Rattle.vm_run.proofs.Stretches.{and_steps, then_run}
-use Rattle.vm_run.proofs.Closed.{given-within, goes, through}
+use Rattle.vm_run.proofs.Stretches.{then_run}
+use Rattle.vm_run.proofs.Closed.{given-within, moved, closed, and_stepped}
 use Rattle.vm_run.proofs.run.+run.Goals as goal
 
 pub loop-machine-init : goal.loop-machine-init
@@ -14,12 +14,11 @@ loop-machine-preserved-in-Ok-Moved g t c =
     let at = c.loop-machine.invariant in
     let check = g.C.SigCheck.good_of c.args.sigs.now in
     let leads = rw c.in-Ok-Moved.field-0-is at c.in-Ok-Moved.ensures.moves in
-    let done = goes c.args.ctx.now check _ c.step.new.self leads in
-    let falls = rw c.in-Ok-Moved.field-0-is at c.in-Ok-Moved.ensures.falls in
+    let step = moved c.args.ctx.now check c.args.program.now c.loop-machine.machine c.step.new.self c.loop-machine-test.true leads in
     record {
-      place = c.in-Ok-Moved.ensures.place;
-      within = omega (arith, at.within, falls);
-      steps = (_, _, _, and_steps c.args.ctx.now check c.args.program.now at.steps.3 (and_one c.loop-machine-test.true done none));
+      place = step.2;
+      within = omega (arith, at.within, step.1);
+      steps = and_stepped c.args.ctx.now check c.args.program.now c.args.machine.now c.loop-machine.machine c.step.new.self at.steps step;
     }
 
 pub close-requires-clause-covered : goal.close-requires-clause-covered
@@ -37,19 +36,21 @@ close-requires-clause-small g t c =
 
 pub loop-machine-smaller : goal.loop-machine-smaller
 loop-machine-smaller g t c =
+    let check = g.C.SigCheck.good_of c.args.sigs.now in
     let leads = rw c.in-Ok-Opened.field-0-is at c.in-Ok-Opened.ensures.moves in
-    omega (arith, (through c.args.ctx.now (g.C.SigCheck.good_of c.args.sigs.now) c.args.program.now c.loop-machine.machine c.step.new.self c.in-Ok-Opened.child c.run.new.machine c.close.new.self c.in-Ok-Opened.popped c.in-Some.called.now c.in_ok-end-in-Ok-Opened.end leads c.in-Some.ensures.item c.in_ok-end-in-Ok-Opened.ensures c.in_ok-close-in-Ok-Opened.ensures).1)
+    let step = closed c.args.ctx.now check c.args.program.now c.loop-machine.machine c.step.new.self c.in-Ok-Opened.child c.run.new.machine c.close.new.self c.in-Ok-Opened.popped c.in-Some.called.now c.in_ok-end-in-Ok-Opened.end c.loop-machine-test.true leads c.in-Some.ensures.item c.in_ok-end-in-Ok-Opened.ensures c.in_ok-close-in-Ok-Opened.ensures in
+    omega (arith, step.1)
 
 pub loop-machine-preserved : goal.loop-machine-preserved
 loop-machine-preserved g t c =
     let at = c.loop-machine.invariant in
     let check = g.C.SigCheck.good_of c.args.sigs.now in
     let leads = rw c.in-Ok-Opened.field-0-is at c.in-Ok-Opened.ensures.moves in
-    let done = through c.args.ctx.now check c.args.program.now c.loop-machine.machine c.step.new.self c.in-Ok-Opened.child c.run.new.machine c.close.new.self c.in-Ok-Opened.popped c.in-Some.called.now c.in_ok-end-in-Ok-Opened.end leads c.in-Some.ensures.item c.in_ok-end-in-Ok-Opened.ensures c.in_ok-close-in-Ok-Opened.ensures in
+    let step = closed c.args.ctx.now check c.args.program.now c.loop-machine.machine c.step.new.self c.in-Ok-Opened.child c.run.new.machine c.close.new.self c.in-Ok-Opened.popped c.in-Some.called.now c.in_ok-end-in-Ok-Opened.end c.loop-machine-test.true leads c.in-Some.ensures.item c.in_ok-end-in-Ok-Opened.ensures c.in_ok-close-in-Ok-Opened.ensures in
     record {
-      place = done.2;
-      within = omega (arith, at.within, done.1);
-      steps = (_, _, _, and_steps c.args.ctx.now check c.args.program.now at.steps.3 (and_one c.loop-machine-test.true done.0.3 none));
+      place = step.2;
+      within = omega (arith, at.within, step.1);
+      steps = and_stepped c.args.ctx.now check c.args.program.now c.args.machine.now c.loop-machine.machine c.close.new.self at.steps step;
     }
 
 pub returns-in-Err-Failed : goal.returns-in-Err-Failed
