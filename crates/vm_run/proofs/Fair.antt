@@ -1,6 +1,6 @@
 -- What every line of the table keeps: its base cost is at least 1, and it jumps at most to the program's end.
 use Rattle.std.proofs.Common.{◌≡◌, ℕ, ◌+◌, ◌≤◌, Bool, true, false, cond, List, [], ◌∷◌, length, drop, min, max, leb, ltb, eqb, Option, Some, None, Ok, Err, ℤ, pos, negsuc, refl, sym, ◌∙◌, ap, arith}
-use Rattle.std.specs.Prelude.{bytes_eq, ◌&&◌}
+use Rattle.std.specs.Prelude.{bytes_eq, ◌&&◌, ◌||◌}
 use Rattle.std.specs.Ordering.{int_eq}
 use Rattle.std.proofs.lemmas.Bool.{cond_both, ltb-false, eqb-true, true≢false}
 use Rattle.std.proofs.lemmas.Bool.Decides.{nat_tests}
@@ -9,10 +9,13 @@ use Rattle.vm_num.specs.declared.failure.Failure.TheVariants.{Underflow, BadOpco
 use Rattle.vm_code.specs.Instruction.{Decoded, is_jump}
 use Rattle.vm_ops.specs.Line.{Line, line_at-all}
 use Rattle.vm_ops.specs.Bytes.{bytes_line, bytes_base}
+use Rattle.vm_ops.specs.Signatures.{message_in}
 use Rattle.vm_ops.specs.Numbers.{number_line, number_base, number_count}
 use Rattle.vm_run.specs.Effect.{Context, Nothing, Block, BlockContext, Check, Row, Faults, Does, Calls, Rule, does, always, needs, on_one, on_two, on_three, on_alt, with_number, on_number, on_two_numbers, on_three_numbers, on_size, on_part, counted, by_count, in_block, push_row}
 use Rattle.vm_run.specs.Moving.{push_rule, jump_row, jump_if_row, verify_row, to_alt_row, from_alt_row, control_table, control_rule, drops, copies, moves, ifdup_row, nip_row, tuck_row, pick_row, roll_row, stack_table, stack_rule}
 use Rattle.vm_run.specs.Making.{string_row, of_string, of_two_strings, of_size, of_part, size_row, equalverify_row, string_table, string_rule, number_row, of_number, of_two_numbers, of_three_numbers, of_numbers, numequalverify_row, number_table, number_rule, call_row, calls, other_table, other_rule}
+use Rattle.vm_run.specs.Signing.{by_counts, signature_row, signatures_row}
+use Rattle.vm_run.specs.ContextLines.{context_table, context_rule}
 use Rattle.vm_run.specs.Row.{row}
 
 -- ---- base costs
@@ -121,6 +124,16 @@ module _ (P : Option ℕ → Type 0) (none : P None) where
       by_sign : (x : ℤ) → Fair P (counted (λ n. line n below) x)
       by_sign (pos n) = fair n below
       by_sign (negsuc n) = tt
+
+  positive : (line : ℕ → Row) → ((n : ℕ) → Fair P (line n)) → (x : ℤ) → Fair P (counted line x)
+  positive line fair (pos n) = fair n
+  positive line fair (negsuc n) = tt
+
+  two_counts : (line : ℕ → ℕ → List Item → Row) → ((m n : ℕ) (below : List Item) → Fair P (line m n below)) → FairRule (by_counts line)
+  two_counts line fair [] alt = tt
+  two_counts line fair (n ∷ []) alt = tt
+  two_counts line fair (n ∷ m ∷ below) alt =
+      numbered _ (λ x. numbered _ (λ y. positive _ (λ a. positive _ (λ b. fair a b below) y) x) (num n)) (num m)
 
   of_block : (f : BlockContext → Item) (context : Context) → FairRule (in_block context (λ b. push_row (f b)))
   of_block f Nothing items alt = tt
@@ -272,16 +285,30 @@ module _ (P : Option ℕ → Type 0) (none : P None) where
       triple _ (λ count program asked.
       numbered _ (λ n. numbered _ (calling (drop 3 items) n program) (num asked)) (num count)) items alt
 
-  others : (context : Context) (code : ℕ) → FairRule (other_rule context code)
-  unfolding other_rule
-  others context code =
-      line_at-all FairRule (always (Faults BadOpcode)) (other_table context) code bad
-      (string 0xa8
-      & of_block (λ b. b.block_id) context
-      & predicate
+  signatures : (check : Check) (m n : ℕ) (below : List Item) → Fair P (signatures_row check m n below)
+  signatures check m n below =
+      either (ltb n m || eqb m 0 && ltb 0 n) _ _ tt
+      (either (ltb (length below) (n + 1 + m)) _ _ tt
+      (either (eqb (length (message_in n below)) 32) _ _ (omega arith, none) tt))
+
+  contexts : (context : Context) (code : ℕ) → FairRule (context_rule context code)
+  unfolding context_rule
+  contexts context code =
+      line_at-all FairRule (always (Faults BadOpcode)) (context_table context) code bad
+      (of_block (λ b. b.block_id) context
       & of_block (λ b. b.program) context
       & of_block (λ b. b.next_program) context
       & of_block (λ b. num_bytes (pos b.time)) context
+      & tt)
+
+  others : (context : Context) (check : Check) (code : ℕ) → FairRule (other_rule context check code)
+  unfolding other_rule
+  others context check code =
+      line_at-all FairRule (context_rule context code) (other_table check) code (contexts context code)
+      (string 0xa8
+      & triple (signature_row check) (λ s m k. either (eqb (length m) 32) _ _ (omega arith, none) tt)
+      & two_counts (signatures_row check) (signatures check)
+      & predicate
       & tt)
 
   lines : (context : Context) (check : Check) (i : Decoded) (size : ℕ) → FairRule (control_rule i size) → (items alt : List Item) → Fair P (row context check i size items alt)
@@ -291,7 +318,7 @@ module _ (P : Option ℕ → Type 0) (none : P None) where
       (either_rule (leb i.code 0x6c) _ _ controls
       (either_rule (leb i.code 0x7d) _ _ (stack i.code)
       (either_rule (leb i.code 0x89) _ _ (strings i.code)
-      (either_rule (leb 0x8b i.code && leb i.code 0xa5) _ _ (numbers i.code) (others context i.code)))))
+      (either_rule (leb 0x8b i.code && leb i.code 0xa5) _ _ (numbers i.code) (others context check i.code)))))
 
 jumping : (size pops place : ℕ) → Fair (Within size) (jump_row pops place size)
 jumping size pops place =

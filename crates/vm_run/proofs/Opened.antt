@@ -6,7 +6,7 @@ use Rattle.vm_code.specs.Instruction.{Decoded}
 use Rattle.vm_stack.specs.Stacks.{Stacks, item_at, held_cost}
 use Rattle.vm_run.specs.declared.machine.Machine.{Machine}
 use Rattle.vm_run.specs.declared.step.Done.TheVariants.{Opened}
-use Rattle.vm_run.specs.Effect.{Context, Calls}
+use Rattle.vm_run.specs.Effect.{Context, Check, Calls}
 use Rattle.vm_run.specs.Making.{calls, other_rule}
 use Rattle.vm_run.specs.Row.{rule}
 use Rattle.vm_run.specs.Run.{Opens, row_move, child_limit}
@@ -14,9 +14,9 @@ use Rattle.vm_run.specs.Follows.{LeadsBy}
 use Rattle.vm_run.proofs.Payment.{opening}
 
 -- the line of CHECKPREDICATE
-pub rule-calls : (context : Context) (i : Decoded) (size : ℕ) (items alt : List Item) → i.code ≡ 0xc0 → rule context i size items alt ≡ calls items alt
+pub rule-calls : (context : Context) (check : Check) (i : Decoded) (size : ℕ) (items alt : List Item) → i.code ≡ 0xc0 → rule context check i size items alt ≡ calls items alt
 unfolding other_rule
-rule-calls context i size items alt is = rw is refl
+rule-calls context check i size items alt is = rw is refl
 
 alike : {program program' : List ℕ} {items items' : List Item} {limit limit' : ℕ} {at at' : ℕ} {both both' : Stacks} {left left' : ℕ} → program ≡ program' → items ≡ items' → limit ≡ limit' → at ≡ at' → both ≡ both' → left ≡ left' → Opens (record { program = program; items = items; limit = limit }) at both.items both.alt left ≡ Opens (record { program = program'; items = items'; limit = limit' }) at' both'.items both'.alt left'
 alike p i l a d n = rw (p, i, l, a, d, n) refl

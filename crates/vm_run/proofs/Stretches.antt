@@ -144,7 +144,7 @@ module _ (size size' : ℕ) (longer : size ≤ size') where
   row_longer : (context : Context) (check : Check) (i : Decoded) (items alt : List Item) → Passes (row context check i size items alt) → row context check i size' items alt ≡ row context check i size items alt
   unfolding row
   row_longer context check i =
-      let past = cond (leb i.code 0x7d) (stack_rule i.code) (cond (leb i.code 0x89) (string_rule i.code) (cond (leb 0x8b i.code && leb i.code 0xa5) (number_rule i.code) (other_rule context i.code))) in
+      let past = cond (leb i.code 0x7d) (stack_rule i.code) (cond (leb i.code 0x89) (string_rule i.code) (cond (leb 0x8b i.code && leb i.code 0xa5) (number_rule i.code) (other_rule context check i.code))) in
       alike_either (leb i.code 0x60) (push_rule i) _ (push_rule i) _ (same (push_rule i))
       (alike_either (leb i.code 0x6c) (control_rule i size) past (control_rule i size') past (control i) (same past))
 

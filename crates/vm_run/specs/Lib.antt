@@ -1,3 +1,4 @@
+pub mod ContextLines
 pub mod Effect
 pub mod Ends
 pub mod Follows
@@ -8,6 +9,7 @@ pub mod Operands
 pub mod Pushes
 pub mod Row
 pub mod Run
+pub mod Signing
 pub mod Stretch
 pub mod Verdict
 pub use Rattle.vm_code.specs.Instruction

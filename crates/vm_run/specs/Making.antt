@@ -1,4 +1,4 @@
--- The lines that make an item of strings of bytes, of numbers and of the context, and the line that calls a program.
+-- The lines that make an item of strings of bytes and of numbers, the line that calls a program, and the others.
 use Rattle.std.specs.Prelude.{ℕ, ◌+◌, ◌&&◌, ◌||◌, Bool, List, [], ◌∷◌, length, drop, min, Ok, Err, bytes_eq}
 use Rattle.std.specs.Prelude.{ℤ, pos, negsuc, if◌then◌else◌, nat_le}
 use Rattle.std.specs.Ordering.{int_eq}
@@ -7,8 +7,10 @@ use Rattle.vm_num.specs.declared.failure.Failure.TheVariants.{BadOpcode, BadValu
 use Rattle.vm_ops.specs.Line.{Line, truth_item, line_at}
 use Rattle.vm_ops.specs.Bytes.{bytes_line, bytes_base}
 use Rattle.vm_ops.specs.Numbers.{number_line, number_base, number_count}
-use Rattle.vm_run.specs.Effect.{Context, Row, Faults, Calls, does, push_row, Rule, always, on_one, on_two, on_three}
-use Rattle.vm_run.specs.Effect.{on_size, on_part, with_number, on_number, on_two_numbers, on_three_numbers, in_block}
+use Rattle.vm_run.specs.Effect.{Context, Check, Row, Faults, Calls, does, push_row, Rule, always, on_one, on_two}
+use Rattle.vm_run.specs.Effect.{on_three, on_size, on_part, with_number, on_number, on_two_numbers, on_three_numbers}
+use Rattle.vm_run.specs.Signing.{by_counts, signature_row, signatures_row}
+use Rattle.vm_run.specs.ContextLines.{context_rule}
 
 -- the item of strings of bytes in the place of so many, and its base cost; or the failure
 abbrev pub string_row : ℕ → ℕ → Item → Item → Line → Row
@@ -106,16 +108,14 @@ calls items alt =
     on_three (λ count program asked.
     with_number (λ n. with_number (call_row (drop 3 items) n program) (num asked)) (num count)) items alt
 
--- SHA256, BLOCKHASH, CHECKPREDICATE, PROGRAM, NEXTPROGRAM, BLOCKTIME
-abbrev pub other_table : Context → List (ℕ × Rule)
-other_table context =
+-- SHA256, CHECKSIG, CHECKMULTISIG, CHECKPREDICATE, and what the context gives
+abbrev pub other_table : Check → List (ℕ × Rule)
+other_table check =
     (0xa8, of_string 0xa8)
-    ∷ (0xaf, in_block context (λ b. push_row b.block_id))
+    ∷ (0xac, on_three (signature_row check))
+    ∷ (0xad, by_counts (signatures_row check))
     ∷ (0xc0, calls)
-    ∷ (0xc4, in_block context (λ b. push_row b.program))
-    ∷ (0xcd, in_block context (λ b. push_row b.next_program))
-    ∷ (0xce, in_block context (λ b. push_row (num_bytes (pos b.time))))
     ∷ []
 
-unfoldable pub other_rule : Context → ℕ → Rule
-other_rule context code = line_at (always (Faults BadOpcode)) (other_table context) code
+unfoldable pub other_rule : Context → Check → ℕ → Rule
+other_rule context check code = line_at (context_rule context code) (other_table check) code

@@ -1,12 +1,13 @@
 -- What the code reads off a data stack for a line, against what the line needs.
-use Rattle.std.specs.Prelude.{◌≡◌, ◌≤◌, ℕ, ◌+◌, ℤ, List, ◌∷◌, length, drop, Result, Ok, Err}
+use Rattle.std.specs.Prelude.{◌≡◌, ◌<◌, ◌≤◌, ◌^◌, ℕ, ◌+◌, ℤ, List, ◌∷◌, length, drop, Result, Ok, Err}
 use Rattle.std.specs.Borrow.{Bor}
 use Rattle.vm_num.specs.Item.{Item}
 use Rattle.vm_num.specs.declared.failure.Failure.{Failure}
 use Rattle.vm_stack.specs.Stacks.{item_at}
 use Rattle.vm_run.specs.Effect.{Row, Faults, Calls, Rule, on_one, on_two, on_number, on_two_numbers, on_three_numbers}
-use Rattle.vm_run.specs.Effect.{on_size, on_part, by_count}
+use Rattle.vm_run.specs.Effect.{on_three, on_size, on_part, by_count}
 use Rattle.vm_run.specs.Making.{calls}
+use Rattle.vm_run.specs.Signing.{by_counts}
 
 -- at these items every line of a kind is a failure
 abbrev pub Fails : {Operands : Type 0} → (Operands → Rule) → List Item → Failure → Type 0
@@ -62,3 +63,16 @@ abbrev pub IsCall : List Item → Result (ℕ × ℕ) Failure → Type 0
 IsCall items (Ok p) =
     (3 + p.0 ≤ length items) × ((alt : List Item) → calls items alt ≡ Calls (item_at 1 items) p.1 p.0)
 IsCall items (Err kind) = (alt : List Item) → calls items alt ≡ Faults kind
+
+-- three items, the deepest first, and two counts
+abbrev pub AreThree : List Item → Result (Bor (List ℕ) × Bor (List ℕ) × Bor (List ℕ)) Failure → Type 0
+AreThree items (Ok p) = items ≡ p.2.now ∷ p.1.now ∷ p.0.now ∷ drop 3 items
+AreThree items (Err kind) = Fails on_three items kind
+
+abbrev pub AreCounts : List Item → Result (ℕ × ℕ) Failure → Type 0
+AreCounts items (Ok p) =
+    (2 ≤ length items)
+    × (p.0 < 2 ^ 63)
+    × (p.1 < 2 ^ 63)
+    × ((line : ℕ → ℕ → List Item → Row) (alt : List Item) → by_counts line items alt ≡ line p.0 p.1 (drop 2 items))
+AreCounts items (Err kind) = Fails by_counts items kind

@@ -8,15 +8,15 @@ pub use Rattle.vm_run.specs.Effect.{Context, Nothing, Block, BlockContext, TimeF
 pub use Rattle.vm_run.specs.Effect.{Row, Faults, Does, Calls, does, push_row, Rule}
 
 -- an instruction's line, in a context and in a program of a length
-abbrev pub rule : Context → Decoded → ℕ → Rule
-rule context i size =
+abbrev pub rule : Context → Check → Decoded → ℕ → Rule
+rule context check i size =
     if nat_le i.code 0x60 then push_rule i
     else (if nat_le i.code 0x6c then control_rule i size
     else (if nat_le i.code 0x7d then stack_rule i.code
     else (if nat_le i.code 0x89 then string_rule i.code
     else (if nat_le 0x8b i.code && nat_le i.code 0xa5 then number_rule i.code
-    else other_rule context i.code))))
+    else other_rule context check i.code))))
 
 -- on the program's length and on the items of the data stack and of the alt stack, the top first in each
 unfoldable pub row : Context → Check → Decoded → ℕ → List Item → List Item → Row
-row context check i size items alt = rule context i size items alt
+row context check i size items alt = rule context check i size items alt

@@ -2,6 +2,7 @@
 #![tactic(auto)]
 
 mod context;
+mod context_lines;
 mod control;
 mod fault;
 pub mod laws;
@@ -13,6 +14,7 @@ mod operands;
 mod other;
 mod predicate;
 mod run;
+mod signing;
 mod step;
 mod strings;
 mod verdict;

@@ -28,14 +28,14 @@ impl Machine {
     pub fn step<C: SigCheck>(
         &mut self,
         ctx: &Context,
-        _sigs: &C,
+        sigs: &C,
         program: &[u8],
         scratch: &mut Vec<u8>,
     ) -> Result<Done, StepFault>
         requires place { self.old.at < length program.now }
         requires small { self.old.left + held_cost self.old.stack < 2 ^ 63 }
         requires time { TimeFits ctx.now }
-        ensures moves { Leads (move ctx.now (C.good_of _sigs.now) program.now self.old.at self.old.stack.items
+        ensures moves { Leads (move ctx.now (C.good_of sigs.now) program.now self.old.at self.old.stack.items
             self.old.stack.alt self.old.left) result self.new }
 
         // What is left and what is held fall together, those of a child counted.
@@ -46,7 +46,7 @@ impl Machine {
         match next(program, self.at) {
             Ok(i) => {
                 self.at += i.len;
-                self.complete(ctx, &i, program.len() as u64, scratch)
+                self.complete(ctx, sigs, &i, program.len() as u64, scratch)
             }
             Err(CodeFault::Short) => Err(StepFault::Failed(Failure::Short)),
             Err(CodeFault::BadOpcode) => Err(StepFault::Failed(Failure::BadOpcode)),
@@ -55,31 +55,33 @@ impl Machine {
     }
 
     // Does the line of an instruction that the machine stands behind, in a program of this length.
-    fn complete(
+    fn complete<C: SigCheck>(
         &mut self,
         ctx: &Context,
+        sigs: &C,
         i: &Instruction<'_>,
         size: u64,
         scratch: &mut Vec<u8>,
     ) -> Result<Done, StepFault>
         requires small { self.old.left + held_cost self.old.stack < 2 ^ 63 }
         requires time { TimeFits ctx.now }
-        ensures { LeadsBy self.old (rule ctx.now (seen i.now) size self.old.stack.items self.old.stack.alt) result
+        ensures { LeadsBy self.old (rule ctx.now (C.good_of sigs.now) (seen i.now) size self.old.stack.items self.old.stack.alt) result
             self.new }
     {
         if i.code == CHECKPREDICATE {
             return self.open();
         }
-        match self.line(ctx, i, size, scratch) {
+        match self.line(ctx, sigs, i, size, scratch) {
             Ok(()) => Ok(Done::Moved),
             Err(fault) => Err(fault),
         }
     }
 
     // The same for every code but CHECKPREDICATE.
-    fn line(
+    fn line<C: SigCheck>(
         &mut self,
         ctx: &Context,
+        sigs: &C,
         i: &Instruction<'_>,
         size: u64,
         scratch: &mut Vec<u8>,
@@ -87,7 +89,7 @@ impl Machine {
         requires other { i.now.code ≢ 0xc0 }
         requires small { self.old.left + held_cost self.old.stack < 2 ^ 63 }
         requires time { TimeFits ctx.now }
-        ensures { Follows self.old (rule ctx.now (seen i.now) size self.old.stack.items self.old.stack.alt) result
+        ensures { Follows self.old (rule ctx.now (C.good_of sigs.now) (seen i.now) size self.old.stack.items self.old.stack.alt) result
             self.new }
     {
         match i.code {
@@ -96,7 +98,7 @@ impl Machine {
             ..=TUCK => self.stack_line(i.code),
             ..=CATPUSHDATA => self.string_line(i.code, scratch),
             ADD_ONE..=WITHIN => self.number_line(i.code),
-            _ => self.other_line(ctx, i.code, scratch),
+            _ => self.other_line(ctx, sigs, i.code, scratch),
         }
     }
 }
