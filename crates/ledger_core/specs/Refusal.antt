@@ -99,8 +99,7 @@ abbrev pub Refuses : Hash → Check → List Block → Block → OfferFault → 
 Refuses hash check blocks block (Refused line) = Refusal hash check blocks block (Some line)
 Refuses hash check blocks block NoMemory = Unit {0}
 
--- what is found out of an offered block: where it extends these, its id and the block again; else why it does not
-abbrev pub Checked : Hash → Check → List Block → Block → Result (List ℕ × Block) OfferFault → Type 0
-Checked hash check blocks block (Ok x) =
-    ValidNext hash check blocks block × (x.0 ≡ header_id hash block.header) × (x.1 ≡ block)
+-- what is found out of an offered block: where it extends these, its id; else why it does not
+abbrev pub Checked : Hash → Check → List Block → Block → Result (List ℕ) OfferFault → Type 0
+Checked hash check blocks block (Ok id) = ValidNext hash check blocks block × (id ≡ header_id hash block.header)
 Checked hash check blocks block (Err fault) = Refuses hash check blocks block fault

@@ -15,7 +15,7 @@ use std::alloc::Global;
 use std::mem::replace;
 use vm_run::laws::one_verdict;
 use vm_run::{BlockContext, Context, NoMemory, Verdict, verify};
-use wire::{Args, Bytes, Id};
+use wire::{Bytes, Id};
 
 /// The run limit of the program that a block has to satisfy, its arguments included.
 const RUN_LIMIT: u64 = 10_000;
@@ -50,26 +50,28 @@ impl Ledger {
         ensures unchanged { OnErr result (self.new ≡ self.old) }
         ensures stands { StandsFor (H.hash_of hash.now) (C.good_of sigs.now) self.new }
     {
+        let mut block = block;
+        let id = self.checked(alloc, hash, sigs, &mut block)?;
         let height = block.header.height;
-        let (id, block) = self.checked(alloc, hash, sigs, block)?;
         self.blocks.push(block)?;
         self.tip_id = id;
         Ok(Accepted { height, id })
     }
 
-    // A block that validly extends the chain, and its id. Its header is hashed once, and the program is run at most
-    // once.
+    // The id of a block that validly extends the chain. Its header is hashed once, and the program is run at most
+    // once. A block that is refused may be left without its program.
     fn checked<H: IdHash, C: SigCheck>(
         &self,
         alloc: Global,
         hash: &H,
         sigs: &C,
-        block: Block,
-    ) -> Result<(Id, Block), OfferFault>
+        block: &mut Block,
+    ) -> Result<Id, OfferFault>
         requires stands { StandsFor (H.hash_of hash.now) (C.good_of sigs.now) self.now }
-        requires header { IsHeader block.header }
+        requires header { IsHeader block.old.header }
         requires room { length self.now.blocks < 2 ^ 40 }
-        ensures { Checked (H.hash_of hash.now) (C.good_of sigs.now) self.now.blocks block result }
+        ensures found { Checked (H.hash_of hash.now) (C.good_of sigs.now) self.now.blocks block.old result }
+        ensures same { OnOk result (block.new ≡ block.old) }
     {
         one_verdict();
         let tip = &self.tip_block().header;
@@ -77,19 +79,19 @@ impl Ledger {
         if let Some(line) = before_run(tip, &self.tip_id, &empty, &block.header) {
             return Err(OfferFault::Refused(line));
         }
-        let Block { header, args, txs } = block;
-        let id = block_id(alloc, hash, &header)?;
-        let (verdict, header) = verdict_after(alloc, sigs, tip, id, header, &args)?;
+        let id = block_id(alloc, hash, &block.header)?;
+        let verdict = verdict_after(alloc, sigs, tip, id, block)?;
         if let Verdict::Failed { kind, at } = verdict {
             return Err(OfferFault::Refused(BlockRefusal::B7 { kind, at }));
         }
-        if header.unspent_root != empty {
+        let given = block.header.unspent_root;
+        if given != empty {
             return Err(OfferFault::Refused(BlockRefusal::B9 {
                 computed: empty,
-                given: header.unspent_root,
+                given,
             }));
         }
-        Ok((id, Block { header, args, txs }))
+        Ok(id)
     }
 }
 
@@ -131,34 +133,32 @@ fn before_run(tip: &Header, tip_id: &Id, computed: &Id, header: &Header) -> Opti
     None
 }
 
-// The verdict on the tip's next program, on the arguments of a block of this id and header, and the header again: its
-// program is lent to the context of the run.
+// The verdict on the tip's next program, on the arguments of a block of this id. Its own program is lent to the context
+// of the run, and comes back where there is a verdict.
 fn verdict_after<C: SigCheck>(
     alloc: Global,
     sigs: &C,
     tip: &Header,
     id: Id,
-    header: Header,
-    args: &Args,
-) -> Result<(Verdict, Header), NoMemory>
-    requires time { header.time < 2 ^ 63 }
+    block: &mut Block,
+) -> Result<Verdict, NoMemory>
+    requires time { block.old.header.time < 2 ^ 63 }
     ensures verdict { (hash : Hash)
-        → id ≡ header_id hash header
-        → IfOk result (λ x. HasVerdictAfter hash (C.good_of sigs.now) tip.now header args.now x.0) }
-    ensures same { IfOk result (λ x. x.1 ≡ header) }
+        → id ≡ header_id hash block.old.header
+        → IfOk result (HasVerdictAfter hash (C.good_of sigs.now) tip.now block.old.header block.old.args) }
+    ensures same { OnOk result (block.new ≡ block.old) }
 {
-    let mut header = header;
-    let next_program = replace(&mut header.next_program, Bytes::new(alloc));
+    let next_program = replace(&mut block.header.next_program, Bytes::new(alloc));
     let context = Context::Block(BlockContext {
         block_id: id,
         program: tip.next_program.copy(alloc)?,
         next_program,
-        time: header.time,
+        time: block.header.time,
     });
     let program = tip.next_program.as_slice();
-    let verdict = verify(alloc, &context, sigs, program, args, RUN_LIMIT)?;
+    let verdict = verify(alloc, &context, sigs, program, &block.args, RUN_LIMIT)?;
     if let Context::Block(seen) = context {
-        header.next_program = seen.next_program;
+        block.header.next_program = seen.next_program;
     }
-    Ok((verdict, header))
+    Ok(verdict)
 }
