@@ -1,2 +1,3 @@
 pub mod BlockRecords
 pub mod FrameLengths
+pub mod TransactionRecords

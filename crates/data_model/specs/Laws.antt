@@ -1,4 +1,4 @@
--- What holds of the reading of blocks.
+-- What holds of the reading of blocks and of transactions.
 use Rattle.std.specs.Prelude.{◌≡◌, ◌≤◌, ℕ, ◌↔◌, ◌++◌, List, length, Ok, Err}
 use Rattle.wire.specs.Spelling.{AreBytes}
 use Rattle.wire.specs.declared.fault.DataKind.{DataKind}
@@ -8,6 +8,9 @@ use Rattle.wire.specs.FirstFault.{FirstFaultOfAll}
 use Rattle.data_model.specs.Layout.{block_layout}
 use Rattle.data_model.specs.Spelling.{IsHeader, IsBlock, header_spelling, block_spelling}
 use Rattle.data_model.specs.Reading.{Fault, block_at}
+use Rattle.wire.specs.Declaring.{RecordLaws}
+use Rattle.data_model.specs.Transaction.{tx_layout, IsTx, tx_spelling}
+use Rattle.data_model.specs.TransactionReading.{tx_at}
 
 pub record BlockLaws : Type 0 where
   -- what is read is spelled so
@@ -42,3 +45,7 @@ pub record BlockLaws : Type 0 where
   -- a fault stands at one of the bytes, or at their end
   pub within : (bytes : List ℕ) (at : ℕ) (kind : DataKind) → FirstFaultOfAll block_layout bytes at kind
       → at ≤ length bytes
+
+-- all bytes spell one transaction or have one first fault, and no spelling begins another
+abbrev pub TxLaws : Type 0
+TxLaws = RecordLaws tx_layout IsTx tx_spelling tx_at

@@ -3,3 +3,5 @@ pub mod Spelling
 pub mod Reading
 pub mod Laws
 pub mod Files
+pub mod Transaction
+pub mod TransactionReading

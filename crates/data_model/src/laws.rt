@@ -1,7 +1,7 @@
 //! What holds of the definitions, each the contract of a function with nothing to do.
-ghost use Rattle.data_model.specs.Laws.{BlockLaws};
+ghost use Rattle.data_model.specs.Laws.{BlockLaws, TxLaws};
 
-use crate::{Block, Header};
+use crate::{Block, Header, Tx};
 use wire::{layout_readings, record_readings};
 
 /// The laws of reading blocks, for the proofs of crates above. It does nothing when it runs.
@@ -11,4 +11,12 @@ pub fn block_readings()
     layout_readings();
     record_readings::<Header>();
     record_readings::<Block>();
+}
+
+/// The laws of reading transactions, for the proofs of crates above. It does nothing when it runs.
+pub fn tx_readings()
+    ensures { TxLaws }
+{
+    layout_readings();
+    record_readings::<Tx>();
 }

@@ -15,14 +15,15 @@ mod output;
 mod output_body;
 mod records;
 mod tx;
+mod tx_records;
 
 pub use block::Block;
-pub use decode::decode_block;
-pub use encode::{encode_block, encode_header};
+pub use decode::{decode_block, decode_tx};
+pub use encode::{encode_block, encode_header, encode_tx};
 pub use files::{block_files, frame, read_blocks};
 pub use header::Header;
 pub use input::{Input, Issue, Spend};
-pub use laws::block_readings;
+pub use laws::{block_readings, tx_readings};
 pub use lists::{Blocks, Ids, Inputs, Outputs, Txs};
 pub use output::{Control, Output, Retire};
 pub use output_body::OutputBody;

@@ -3,11 +3,11 @@ use crate::{Block, Header, Txs};
 use std::alloc::Global;
 use wire::{Bytes, Cursor, DataFault, NoMemory, Record, Writer, layout_readings};
 
-const MAX_NUMBER: u64 = (1 << 63) - 1;
+pub(crate) const MAX_NUMBER: u64 = (1 << 63) - 1;
 
-const MAX_STRING_LEN: u64 = 65_536;
+pub(crate) const MAX_STRING_LEN: u64 = 65_536;
 
-const MAX_ARGS: u64 = 64;
+pub(crate) const MAX_ARGS: u64 = 64;
 
 const MAX_TXS: u64 = 0;
 

@@ -29,6 +29,11 @@ pub data Layout : Type 0 where
 abbrev pub Id : Layout
 Id = Raw 32
 
+-- one field, and then the others
+infixr 5 ◌▸◌
+abbrev pub ◌▸◌ : Layout → Layout → Layout
+field ▸ others = Then field others
+
 -- kinds in order, from 0
 abbrev pub or_else : Layout → (ℕ → Layout) → ℕ → Layout
 or_else first others zero = first

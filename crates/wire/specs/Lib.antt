@@ -7,6 +7,7 @@ pub mod FirstFault
 pub mod Readers
 pub mod LayoutLaws
 pub mod Records
+pub mod Declaring
 pub mod Files
 pub mod Kinds
 pub mod Tables

@@ -14,7 +14,7 @@ pub trait Twin: Drop + Sized {
     fn copy_all(alloc: Global, items: &[Self]) -> Result<Vec<Self>, NoMemory>
         ensures { IfOk result (λ twins. twins.items ≡ items.now) }
     {
-        let mut twins = Vec::new(alloc);
+        let mut twins = Vec::with_capacity(alloc, items.len())?;
         for item in items {
             twins.push(item.copy(alloc)?)?;
         }

@@ -178,8 +178,10 @@ impl<'a> Cursor<'a> {
     ) -> Result<Listed<T>, DataFault>
         ensures { Reads result self.new (items_at room T.reading count 0 self.old) }
     {
-        let mut items = Listed::new(alloc);
         let from = self.at();
+        let mut items = Listed::new(alloc);
+        // A count is no reason to ask for more room than the bytes that are left could fill.
+        items.reserve(self.rest().len().min(count as usize))?;
         for _ in 0..count {
             items.push(self.item(alloc, room, from)?)?;
         }

@@ -26,8 +26,8 @@ impl Model for Writer {
 }
 
 impl Writer {
-    // No bytes, and room for those of a small record.
-    pub(crate) fn new(alloc: Global) -> Result<Writer, NoMemory>
+    /// No bytes, and room for those of a small record.
+    pub fn new(alloc: Global) -> Result<Writer, NoMemory>
         ensures { IfOk result (λ writer. writer ≡ []) }
     {
         let mut bytes = Bytes::new(alloc);
@@ -35,8 +35,8 @@ impl Writer {
         Ok(Writer { bytes })
     }
 
-    // All that was written.
-    pub(crate) fn end(self) -> Vec<u8>
+    /// All that was written.
+    pub fn end(self) -> Vec<u8>
         ensures { result.items ≡ self }
     {
         self.bytes.into_vec()

@@ -6,7 +6,7 @@ use Rattle.wire.proofs.cursor.Cursor.items.Goals as goal
 
 pub returns-in_err-item : goal.returns-in_err-item
 returns-in_err-item g c =
-    let p = err_from_is_err_and c.from_residual.result c.from_residual.ensures.1 in
+    let p = err_from_is_err_and c.from_residual-in_err-item.result c.from_residual-in_err-item.ensures.1 in
     let l = c.loop in
     rw (p.1, p.2) (ends c.args.room g.T.Record.reading c.in_err-item.field-0.0 l.items c.args.count l.counter (l.self.at - c.at-from.result) l.self (items_at c.args.room g.T.Record.reading c.args.count 0 c.args.self.now) c.loop-test.true c.in_err-item.ensures.read l.invariant.read)
 

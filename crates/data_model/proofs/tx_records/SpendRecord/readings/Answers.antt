@@ -1,0 +1,6 @@
+use Rattle.wire.specs.Declaring.{declared_reader}
+use Rattle.data_model.proofs.TransactionRecords.{spend_declared}
+use Rattle.data_model.proofs.tx_records.SpendRecord.readings.Goals as goal
+
+pub returns : goal.returns
+returns c = declared_reader _ _ _ _ spend_declared c.layout_readings.ensures
