@@ -62,6 +62,9 @@ abbrev pub input_parts : Input → Value input_layout
 input_parts (Input.Issue issue) = (0, issue_parts issue)
 input_parts (Input.Spend spend) = (1, spend_parts spend)
 
+abbrev pub IsInput : Input → Type 0
+IsInput input = Fits input_layout (input_parts input)
+
 -- ---- outputs
 
 -- asset, amount, program, data
@@ -88,6 +91,9 @@ output_layout = Kinds 2 output_kinds
 abbrev pub output_parts : Output → Value output_layout
 output_parts (Output.Control control) = (0, control_parts control)
 output_parts (Output.Retire retire) = (1, retire_parts retire)
+
+abbrev pub IsOutput : Output → Type 0
+IsOutput output = Fits output_layout (output_parts output)
 
 -- ---- transactions
 

@@ -139,12 +139,12 @@ impl Record for Spend {
 }
 
 impl Record for Input {
-    ghost use Rattle.wire.specs.Layout.{Fits, spelling};
+    ghost use Rattle.wire.specs.Layout.{spelling};
     ghost use Rattle.wire.specs.FirstFault.{FirstFault};
-    ghost use Rattle.data_model.specs.Transaction.{input_layout, input_parts};
+    ghost use Rattle.data_model.specs.Transaction.{input_layout, input_parts, IsInput};
     ghost use Rattle.data_model.specs.TransactionReading.{input_at};
 
-    ghost fits = { λ input. Fits input_layout (input_parts input) };
+    ghost fits = { IsInput };
 
     ghost spelling = { λ input. spelling input_layout (input_parts input) };
 
@@ -253,12 +253,12 @@ impl Record for Retire {
 }
 
 impl Record for Output {
-    ghost use Rattle.wire.specs.Layout.{Fits, spelling};
+    ghost use Rattle.wire.specs.Layout.{spelling};
     ghost use Rattle.wire.specs.FirstFault.{FirstFault};
-    ghost use Rattle.data_model.specs.Transaction.{output_layout, output_parts};
+    ghost use Rattle.data_model.specs.Transaction.{output_layout, output_parts, IsOutput};
     ghost use Rattle.data_model.specs.TransactionReading.{output_at};
 
-    ghost fits = { λ output. Fits output_layout (output_parts output) };
+    ghost fits = { IsOutput };
 
     ghost spelling = { λ output. spelling output_layout (output_parts output) };
 

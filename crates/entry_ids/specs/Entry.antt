@@ -3,14 +3,18 @@ use Rattle.std.specs.Prelude.{ℕ, List, ◌++◌, codes}
 use Rattle.data_model.specs.declared.header.Header.{Header}
 use Rattle.data_model.specs.Spelling.{header_spelling}
 
+-- a hash, as a function of bytes
+abbrev pub Hash : Type 0
+Hash = List ℕ → List ℕ
+
 -- what is hashed to the id of an entry of this type with this body
-abbrev pub entry_text : (List ℕ → List ℕ) → List ℕ → List ℕ → List ℕ
+abbrev pub entry_text : Hash → List ℕ → List ℕ → List ℕ
 entry_text hash name body = codes "entryid:" ++ name ++ codes ":" ++ hash body
 
 -- the id of such an entry
-abbrev pub entry : (List ℕ → List ℕ) → List ℕ → List ℕ → List ℕ
+abbrev pub entry : Hash → List ℕ → List ℕ → List ℕ
 entry hash name body = hash (entry_text hash name body)
 
 -- the id of a block
-unfoldable pub header_id : (List ℕ → List ℕ) → Header → List ℕ
+unfoldable pub header_id : Hash → Header → List ℕ
 header_id hash header = entry hash (codes "blockheader") (header_spelling header)

@@ -2,7 +2,17 @@
 //! `H("entryid:" ++ type ++ ":" ++ H(body))`. Where two bodies of one type have one id, the hash has a clash.
 #![tactic(auto)]
 
+mod asset;
 mod entry;
 mod header;
+mod input;
+mod output;
+mod signing;
+mod tx;
 
+pub use asset::asset_id;
 pub use header::block_id;
+pub use input::nonce_id;
+pub use output::output_id;
+pub use signing::sig_hash;
+pub use tx::{TxIds, input_id, mux_id, result_id, tx_id, tx_ids};

@@ -11,8 +11,8 @@ use Rattle.wire.specs.Layout.{Layout, Then, Many, Kinds, or_else, only, Value, F
 use Rattle.wire.specs.FirstFault.{WholeFault, FirstFault, FirstFaultOfAll}
 use Rattle.wire.specs.Readers.{FaultAt, WholeAnswers, IsReader, IsWholeReader}
 use Rattle.wire.specs.LayoutLaws.{SpellingLaws, LayoutLaws}
-use Rattle.wire.specs.Records.{StandFor, left_there, left_back, same_reader, HasParts, record_reader, both_of, then_same}
-use Rattle.wire.specs.Records.{many_same, kinds_same, mapped-mapped}
+use Rattle.wire.specs.Records.{StandFor, left_there, left_back, same_reader, HasParts, record_reader, both_of}
+use Rattle.wire.specs.Records.{then_same, many_same, kinds_same, mapped-mapped}
 
 -- ---- what holds of the reading of a record
 

@@ -35,6 +35,20 @@ impl Writer {
         Ok(Writer { bytes })
     }
 
+    /// What was written.
+    pub fn as_slice(&self) -> &[u8]
+        ensures { result.now ≡ self.now }
+    {
+        self.bytes.as_slice()
+    }
+
+    /// Drops what was written, and keeps its room.
+    pub fn clear(&mut self)
+        ensures { self.new ≡ [] }
+    {
+        self.bytes.truncate(0);
+    }
+
     /// All that was written.
     pub fn end(self) -> Vec<u8>
         ensures { result.items ≡ self }

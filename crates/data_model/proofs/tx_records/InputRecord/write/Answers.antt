@@ -1,19 +1,16 @@
 use Rattle.std.proofs.Common.{◌≡◌, ◌++◌, subst, sym}
 use Rattle.std.specs.Prelude.{OnOk}
-use Rattle.wire.specs.Layout.{Fits, spelling}
+use Rattle.wire.specs.Layout.{spelling}
 use Rattle.data_model.specs.declared.input.Input.{Input}
-use Rattle.data_model.specs.Transaction.{input_layout, input_parts}
+use Rattle.data_model.specs.Transaction.{input_layout, input_parts, IsInput}
 use Rattle.data_model.proofs.TransactionRecords.{behind_kind}
 use Rattle.data_model.proofs.tx_records.InputRecord.write.Goals as goal
 
-abbrev IsWithin : Input → Type 0
-IsWithin input = Fits input_layout (input_parts input)
-
 pub write-requires : goal.write-requires
-write-requires c = (subst IsWithin c.in-Issue.is c.requires).1
+write-requires c = (subst IsInput c.in-Issue.is c.requires).1
 
 pub write-requires-in-Spend : goal.write-requires-in-Spend
-write-requires-in-Spend c = (subst IsWithin c.in-Spend.is c.requires).1
+write-requires-in-Spend c = (subst IsInput c.in-Spend.is c.requires).1
 
 pub returns-in_ok-kind-in-Issue : goal.returns-in_ok-kind-in-Issue
 returns-in_ok-kind-in-Issue c =

@@ -1,19 +1,16 @@
 use Rattle.std.proofs.Common.{◌≡◌, ◌++◌, subst, sym}
 use Rattle.std.specs.Prelude.{OnOk}
-use Rattle.wire.specs.Layout.{Fits, spelling}
+use Rattle.wire.specs.Layout.{spelling}
 use Rattle.data_model.specs.declared.output.Output.{Output}
-use Rattle.data_model.specs.Transaction.{output_layout, output_parts}
+use Rattle.data_model.specs.Transaction.{output_layout, output_parts, IsOutput}
 use Rattle.data_model.proofs.TransactionRecords.{behind_kind}
 use Rattle.data_model.proofs.tx_records.OutputRecord.write.Goals as goal
 
-abbrev IsWithin : Output → Type 0
-IsWithin output = Fits output_layout (output_parts output)
-
 pub write-requires : goal.write-requires
-write-requires c = (subst IsWithin c.in-Control.is c.requires).1
+write-requires c = (subst IsOutput c.in-Control.is c.requires).1
 
 pub write-requires-in-Retire : goal.write-requires-in-Retire
-write-requires-in-Retire c = (subst IsWithin c.in-Retire.is c.requires).1
+write-requires-in-Retire c = (subst IsOutput c.in-Retire.is c.requires).1
 
 pub returns-in_ok-kind-in-Control : goal.returns-in_ok-kind-in-Control
 returns-in_ok-kind-in-Control c =

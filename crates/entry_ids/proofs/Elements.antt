@@ -1,0 +1,71 @@
+-- What holds of one of a transaction's inputs or outputs, and of ids that are found one after the other.
+use Rattle.std.proofs.Common.{◌≡◌, ℕ, zero, suc, ◌+◌, ◌<◌, List, [], ◌∷◌, ◌++◌, length, take, get_or, Some, Result, Ok, Err, sym, ap, subst, ◌∙◌, append_assoc, append-nil, add-one, arith}
+use Rattle.std.specs.Prelude.{map, slice_get, IfOk}
+use Rattle.std.specs.List.{AllByRecursion, concat, enumerate_from}
+use Rattle.wire.specs.Layout.{Fits}
+use Rattle.wire.specs.Records.{AllByRecursion-map}
+use Rattle.data_model.specs.declared.input.Input.{Input}
+use Rattle.data_model.specs.declared.output.Output.{Output}
+use Rattle.data_model.specs.declared.tx.Tx.{Tx}
+use Rattle.data_model.specs.Transaction.{input_layout, input_parts, IsInput, output_layout, output_parts, IsOutput, IsTx}
+
+-- this stands at that place of the list
+pub record StandsAt {X : Type 0} (xs : List X) (i : ℕ) (x : X) : Type 0 where
+  pub there : i < length xs
+  pub is : x ≡ get_or xs i x
+
+held : {X : Type 0} (P : X → Type 0) (xs : List X) (i : ℕ) (x : X) → AllByRecursion P xs → StandsAt xs i x → P x
+held P [] i x h s = absurd (omega (arith, s.there))
+held P (y ∷ xs) zero x h s = subst P (sym s.is) h.0
+held P (y ∷ xs) (suc i) x h s = held P xs i x h.1 (record { there = omega (arith, s.there); is = s.is })
+
+pub is_input : (tx : Tx) (i : ℕ) (input : Input) → IsTx tx → StandsAt tx.inputs i input → IsInput input
+is_input tx i input h s = held IsInput tx.inputs i input (AllByRecursion-map input_parts (Fits input_layout) tx.inputs h.1.1.1.1.0.1.each) s
+
+pub is_output : (tx : Tx) (i : ℕ) (output : Output) → IsTx tx → StandsAt tx.outputs i output → IsOutput output
+is_output tx i output h s = held IsOutput tx.outputs i output (AllByRecursion-map output_parts (Fits output_layout) tx.outputs h.1.1.1.1.1.1.each) s
+
+-- ---- ids, one after the other
+
+pub mapped_at : {X Y : Type 0} (f : X → Y) (xs : List X) (i : ℕ) (x : X) → StandsAt xs i x → slice_get (map f xs) i ≡ Some (f x)
+mapped_at f [] i x s = absurd (omega (arith, s.there))
+mapped_at f (y ∷ xs) zero x s = ap (λ z. Some (f z)) (sym s.is)
+mapped_at f (y ∷ xs) (suc i) x s = mapped_at f xs i x (record { there = omega (arith, s.there); is = s.is })
+
+module _ {X Y : Type 0} (f : ℕ → X → Y) where
+  abbrev counted : ℕ → List X → List Y
+  counted n xs = map (λ x. f x.0 x.1) (enumerate_from n xs)
+
+  next_from : (n : ℕ) (xs : List X) (i : ℕ) (x : X) → StandsAt xs i x → counted n (take (suc i) xs) ≡ counted n (take i xs) ++ f (n + i) x ∷ []
+  next_from n [] i x s = absurd (omega (arith, s.there))
+  next_from n (y ∷ xs) zero x s = (let e : n ≡ n + 0 = omega arith in ap (λ z. f n z ∷ []) (sym s.is) ∙ ap (λ k. f k x ∷ []) e)
+  next_from n (y ∷ xs) (suc i) x s =
+      let e : (n + 1) + i ≡ n + suc i = omega arith in
+      ap (λ ys. f n y ∷ ys) (next_from (n + 1) xs i x (record { there = omega (arith, s.there); is = s.is }))
+      ∙ ap (λ k. f n y ∷ (counted (n + 1) (take i xs) ++ f k x ∷ [])) e
+
+  pub next_counted : (xs : List X) (i : ℕ) (x : X) → StandsAt xs i x → counted 0 (take (i + 1) xs) ≡ counted 0 (take i xs) ++ f i x ∷ []
+  next_counted xs i x s =
+      let e : 0 + i ≡ i = omega arith in
+      rw add-one (next_from 0 xs i x s ∙ ap (λ k. counted 0 (take i xs) ++ f k x ∷ []) e)
+
+  at_from : (n : ℕ) (xs : List X) (i : ℕ) (x : X) → StandsAt xs i x → slice_get (counted n xs) i ≡ Some (f (n + i) x)
+  at_from n [] i x s = absurd (omega (arith, s.there))
+  at_from n (y ∷ xs) zero x s = (let e : n ≡ n + 0 = omega arith in ap (λ z. Some (f n z)) (sym s.is) ∙ ap (λ k. Some (f k x)) e)
+  at_from n (y ∷ xs) (suc i) x s =
+      let e : (n + 1) + i ≡ n + suc i = omega arith in
+      at_from (n + 1) xs i x (record { there = omega (arith, s.there); is = s.is }) ∙ ap (λ k. Some (f k x)) e
+
+  pub counted_at : (xs : List X) (i : ℕ) (x : X) → StandsAt xs i x → slice_get (counted 0 xs) i ≡ Some (f i x)
+  counted_at xs i x s =
+      let e : 0 + i ≡ i = omega arith in
+      at_from 0 xs i x s ∙ ap (λ k. Some (f k x)) e
+
+pub concat_more : (ids : List (List ℕ)) (id : List ℕ) → concat (ids ++ id ∷ []) ≡ concat ids ++ id
+concat_more [] id = append-nil id
+concat_more (x ∷ ids) id = ap (λ rest. x ++ rest) (concat_more ids id) ∙ sym (append_assoc x (concat ids) id)
+
+-- an id that was found is the one of that place
+pub found_at : {E : Type 0} (ids : List (List ℕ)) (k : ℕ) (id : List ℕ) (r : Result (List ℕ) E) → slice_get ids k ≡ Some id → IfOk r (λ x. x ≡ id) → IfOk r (λ x. slice_get ids k ≡ Some x)
+found_at ids k id (Ok x) e h = e ∙ ap (λ y. Some y) (sym h)
+found_at ids k id (Err f) e h = tt

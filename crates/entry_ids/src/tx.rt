@@ -1,0 +1,167 @@
+//! Ids of a transaction and of what it has.
+ghost use Rattle.std.specs.Prelude.{◌≡◌, ◌<◌, ◌^◌, ◌++◌, length, slice_get, Some, IfOk, OnOk};
+ghost use Rattle.std.specs.List.{concat};
+ghost use Rattle.wire.specs.Spelling.{varint};
+ghost use Rattle.data_model.specs.Transaction.{IsInput, IsTx};
+ghost use Rattle.entry_ids.specs.Ids.{input_ids, value_of, mux_body, mux_id, results_of, result_ids, tx_id};
+
+use crate::entry::entry_id;
+use crate::input::id_of_input;
+use crate::output::id_of_result;
+use data_model::{Ids, Input, Tx};
+use keyed::IdHash;
+use std::alloc::Global;
+use wire::{Id, NoMemory, Writer};
+
+/// The ids of a transaction's entries.
+#[derive(Debug, Drop)]
+pub struct TxIds {
+    pub mux: Id,
+    /// Those of the inputs, in order.
+    pub inputs: Ids,
+    /// Those of the outputs and retirements, in order.
+    pub results: Ids,
+    pub tx: Id,
+}
+
+/// The ids of a transaction's entries, formed together. It hashes each string once: the data of the transaction, of its
+/// inputs and of its outputs; and of each entry, nonce and spent output the body, and then the type with that hash. Those
+/// are as many bytes as the transaction's spelling has, times a constant at most. No id names the arguments of an input,
+/// nor the program and the definition of an issuance but by its asset.
+pub fn tx_ids<H: IdHash>(alloc: Global, hash: &H, tx: &Tx) -> Result<TxIds, NoMemory>
+    requires { IsTx tx.now }
+    ensures mux { IfOk result (λ ids. ids.mux ≡ mux_id (H.hash_of hash.now) tx.now) }
+    ensures inputs { IfOk result (λ ids. ids.inputs ≡ input_ids (H.hash_of hash.now) tx.now) }
+    ensures results { IfOk result (λ ids. ids.results ≡ result_ids (H.hash_of hash.now) tx.now) }
+    ensures tx { IfOk result (λ ids. ids.tx ≡ tx_id (H.hash_of hash.now) tx.now) }
+{
+    let mut text = Writer::new(alloc)?;
+    let mut body = Writer::new(alloc)?;
+    let inputs = put_inputs(alloc, hash, tx, &mut body, &mut text)?;
+    let mux = entry_id(hash, b"mux1", body.as_slice());
+    let results = put_results(alloc, hash, tx, &mux, &mut body, &mut text)?;
+    body.raw(&hash.hash(tx.refdata.as_slice()))?;
+    body.number(tx.mintime)?;
+    body.number(tx.maxtime)?;
+    let tx = entry_id(hash, b"txheader", body.as_slice());
+    Ok(TxIds {
+        mux,
+        inputs,
+        results,
+        tx,
+    })
+}
+
+/// The id of a transaction.
+pub fn tx_id<H: IdHash>(alloc: Global, hash: &H, tx: &Tx) -> Result<Id, NoMemory>
+    requires { IsTx tx.now }
+    ensures { IfOk result (λ id. id ≡ tx_id (H.hash_of hash.now) tx.now) }
+{
+    Ok(tx_ids(alloc, hash, tx)?.tx)
+}
+
+/// The id of a transaction's mux, in which the values of its inputs come together.
+pub fn mux_id<H: IdHash>(alloc: Global, hash: &H, tx: &Tx) -> Result<Id, NoMemory>
+    requires { IsTx tx.now }
+    ensures { IfOk result (λ id. id ≡ mux_id (H.hash_of hash.now) tx.now) }
+{
+    let mut text = Writer::new(alloc)?;
+    let mut body = Writer::new(alloc)?;
+    put_inputs(alloc, hash, tx, &mut body, &mut text)?;
+    Ok(entry_id(hash, b"mux1", body.as_slice()))
+}
+
+/// The id of the entry of the k-th input, counted from 0.
+pub fn input_id<H: IdHash>(alloc: Global, hash: &H, tx: &Tx, k: u64) -> Result<Id, NoMemory>
+    requires tx { IsTx tx.now }
+    requires there { k < length tx.now.inputs }
+    ensures { IfOk result (λ id. slice_get (input_ids (H.hash_of hash.now) tx.now) k ≡ Some id) }
+{
+    let mut text = Writer::new(alloc)?;
+    id_of_input(hash, tx, &tx.inputs.as_slice()[k as usize], &mut text)
+}
+
+/// The id of the k-th output or retirement, counted from 0.
+pub fn result_id<H: IdHash>(alloc: Global, hash: &H, tx: &Tx, k: u64) -> Result<Id, NoMemory>
+    requires tx { IsTx tx.now }
+    requires there { k < length tx.now.outputs }
+    ensures { IfOk result (λ id. slice_get (result_ids (H.hash_of hash.now) tx.now) k ≡ Some id) }
+{
+    let mux = mux_id(alloc, hash, tx)?;
+    let mut text = Writer::new(alloc)?;
+    id_of_result(hash, &mux, k, &tx.outputs.as_slice()[k as usize], &mut text)
+}
+
+// Writes the body of the mux, and gives the ids of the inputs' entries.
+fn put_inputs<H: IdHash>(
+    alloc: Global,
+    hash: &H,
+    tx: &Tx,
+    body: &mut Writer,
+    text: &mut Writer,
+) -> Result<Ids, NoMemory>
+    requires { IsTx tx.now }
+    ensures ids { IfOk result (λ ids. ids ≡ input_ids (H.hash_of hash.now) tx.now) }
+    ensures body { OnOk result (body.new ≡ mux_body (H.hash_of hash.now) tx.now) }
+{
+    let inputs = tx.inputs.as_slice();
+    let mut ids = Ids::new(alloc);
+    ids.reserve(inputs.len())?;
+    body.clear();
+    body.number(inputs.len() as u64)?;
+    for input in inputs {
+        let id = id_of_input(hash, tx, input, text)?;
+        body.raw(&id)?;
+        put_value(input, body)?;
+        ids.push(id)?;
+    }
+    Ok(ids)
+}
+
+// Adds the value that an input brings.
+fn put_value(input: &Input, body: &mut Writer) -> Result<(), NoMemory>
+    requires { IsInput input.now }
+    ensures { OnOk result (body.new ≡ body.old ++ value_of input.now) }
+{
+    match input {
+        Input::Issue(issue) => put_units(&issue.asset, issue.amount, body),
+        Input::Spend(spend) => put_units(&spend.from.asset, spend.from.amount, body),
+    }
+}
+
+// Adds so many units of an asset.
+fn put_units(asset: &Id, amount: u64, body: &mut Writer) -> Result<(), NoMemory>
+    requires { amount < 2 ^ 63 }
+    ensures { OnOk result (body.new ≡ body.old ++ (asset.now ++ varint amount)) }
+{
+    body.raw(asset)?;
+    body.number(amount)
+}
+
+// Writes the front of a transaction's body, with the ids of its outputs and retirements, and gives these.
+fn put_results<H: IdHash>(
+    alloc: Global,
+    hash: &H,
+    tx: &Tx,
+    mux: &Id,
+    body: &mut Writer,
+    text: &mut Writer,
+) -> Result<Ids, NoMemory>
+    requires { IsTx tx.now }
+    ensures ids { IfOk result (λ ids. ids ≡ results_of (H.hash_of hash.now) mux.now tx.now.outputs) }
+    ensures body { let ids = results_of (H.hash_of hash.now) mux.now tx.now.outputs in
+        OnOk result (body.new ≡ varint tx.now.version ++ varint (length tx.now.outputs) ++ concat ids) }
+{
+    let outputs = tx.outputs.as_slice();
+    let mut ids = Ids::new(alloc);
+    ids.reserve(outputs.len())?;
+    body.clear();
+    body.number(tx.version)?;
+    body.number(outputs.len() as u64)?;
+    for (position, output) in outputs.iter().enumerate() {
+        let id = id_of_result(hash, mux, position as u64, output, text)?;
+        body.raw(&id)?;
+        ids.push(id)?;
+    }
+    Ok(ids)
+}
