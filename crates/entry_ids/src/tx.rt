@@ -25,9 +25,9 @@ pub struct TxIds {
 }
 
 /// The ids of a transaction's entries, formed together. It hashes each string once: the data of the transaction, of its
-/// inputs and of its outputs; and of each entry, nonce and spent output the body, and then the type with that hash. Those
-/// are as many bytes as the transaction's spelling has, times a constant at most. No id names the arguments of an input,
-/// nor the program and the definition of an issuance but by its asset.
+/// inputs and of its outputs; and of each entry, nonce and spent output the body, and then the type with that hash. So
+/// the bytes that are hashed are linear in those of the transaction's spelling. The arguments of the inputs are not
+/// hashed, nor are the programs and definitions of issuances, which the asset names.
 pub fn tx_ids<H: IdHash>(alloc: Global, hash: &H, tx: &Tx) -> Result<TxIds, NoMemory>
     requires { IsTx tx.now }
     ensures mux { IfOk result (λ ids. ids.mux ≡ mux_id (H.hash_of hash.now) tx.now) }
