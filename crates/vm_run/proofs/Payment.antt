@@ -1,6 +1,6 @@
 -- Payment for an effect, by cases.
 use Rattle.std.proofs.Common.{◌≡◌, ℕ, ◌+◌, ◌-◌, ◌<◌, ◌≤◌, ◌==◌, Bool, true, false, cond, List, ◌++◌, take, drop, refl, ap, Ok, Err, arith}
-use Rattle.std.proofs.lemmas.Bool.{lt-ltb, le-ltb}
+use Rattle.std.proofs.lemmas.Bool.{lt-ltb, le-ltb, ne_eqb}
 use Rattle.std.proofs.lemmas.Bool.Decides.{nat_tests}
 use Rattle.std.proofs.lemmas.List.Sums.{sum_by-take-drop}
 use Rattle.vm_num.specs.Item.{Item, cost, total_cost}
@@ -38,6 +38,12 @@ child_limit-within asked left enough = by (asked == 0)
     by : (b : Bool) → cond b left asked ≤ left
     by true = omega arith
     by false = enough
+
+pub all-of-it : (asked left : ℕ) → asked ≡ 0 → child_limit asked left ≡ left
+all-of-it asked left none = rw none refl
+
+pub as-asked : (asked left : ℕ) → (asked ≡ 0 → ⊥) → child_limit asked left ≡ asked
+as-asked asked left some = rw (ne_eqb asked 0 some) refl
 
 module _ (behind limit : ℕ) (items alt : List Item) (program : Item) (asked count : ℕ) where
   pub short_of_opening : limit < 256 → opened behind items alt limit program asked count ≡ Stops RunLimit

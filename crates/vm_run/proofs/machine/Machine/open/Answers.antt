@@ -1,7 +1,8 @@
-use Rattle.std.proofs.Common.{◌≡◌, ◌-◌, [], take, drop, refl, ◌∙◌, ap, arith}
+use Rattle.std.proofs.Common.{◌≡◌, ◌-◌, [], take, drop, refl, sym, ◌∙◌, ap, arith}
 use Rattle.vm_stack.specs.Stacks.{Stacks}
 use Rattle.vm_run.specs.Run.{child_limit}
 use Rattle.vm_run.proofs.Opened.{opens}
+use Rattle.vm_run.proofs.Payment.{all-of-it, as-asked}
 use Rattle.vm_run.proofs.machine.Machine.open.Goals as goal
 use Rattle.vm_run.proofs.machine.Machine.open.Goals.{then-asked-eq0, else-asked-eq0}
 
@@ -10,8 +11,8 @@ returns c =
     let m = c.args.self.now in
     let call = c.in_ok-count.ensures in
     let given : c.if-asked-eq0.limit ≡ child_limit c.in_ok-count.asked (m.left - 256) = elim c.if-asked-eq0.branch [
-      | then-asked-eq0 w ↦ grind (arith, w.if-asked-eq0.true, w.limit-is)
-      | else-asked-eq0 w ↦ grind (arith, w.if-asked-eq0.false, w.limit-is)
+      | then-asked-eq0 w ↦ w.limit-is ∙ sym (all-of-it c.in_ok-count.asked (m.left - 256) w.if-asked-eq0.true)
+      | else-asked-eq0 w ↦ w.limit-is ∙ sym (as-asked c.in_ok-count.asked (m.left - 256) w.if-asked-eq0.false)
     ] in
     let below : Stacks → Stacks = λ s. record s { items = drop c.in_ok-count.count s.items } in
     let taken : Stacks → Stacks = λ s. record { items = take c.in_ok-count.count s.items; alt = [] } in
