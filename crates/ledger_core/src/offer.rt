@@ -1,5 +1,6 @@
 ghost use Rattle.std.specs.Prelude.{◌≡◌, ◌<◌, ◌≤◌, ◌^◌, ◌++◌, [], ◌∷◌, length, IfOk, IfErr, OnOk, OnErr};
 ghost use Rattle.entry_ids.specs.Entry.{header_id};
+ghost use Rattle.vm_run.specs.declared.context.BlockContext.{BlockContext};
 ghost use Rattle.data_model.specs.Layout.{most_txs};
 ghost use Rattle.data_model.specs.Spelling.{IsHeader};
 ghost use Rattle.wire.specs.Tables.{First};
@@ -157,8 +158,16 @@ fn verdict_after<C: SigCheck>(
     });
     let program = tip.next_program.as_slice();
     let verdict = verify(alloc, &context, sigs, program, &block.args, RUN_LIMIT)?;
-    if let Context::Block(seen) = context {
-        block.header.next_program = seen.next_program;
-    }
+    block.header.next_program = own_program(alloc, context);
     Ok(verdict)
+}
+
+// The program of its own that a block lent to its context.
+fn own_program(alloc: Global, context: Context) -> Bytes
+    ensures { (seen : BlockContext) → context ≡ Context.Block seen → result ≡ seen.next_program }
+{
+    match context {
+        Context::Block(seen) => seen.next_program,
+        _ => Bytes::new(alloc),
+    }
 }

@@ -3,6 +3,7 @@ ghost use Rattle.data_model.specs.Spelling.{IsHeader};
 ghost use Rattle.entry_ids.specs.Entry.{header_id};
 ghost use Rattle.vm_run.specs.Row.{Check};
 ghost use Rattle.wire.specs.Tables.{First};
+ghost use Rattle.ledger_core.specs.Roots.{root_of_none};
 ghost use Rattle.ledger_core.specs.Start.{start_lines, StartRefusal, RefusesStart};
 ghost use Rattle.ledger_core.specs.Chain.{StandsFor};
 
@@ -26,10 +27,7 @@ impl Ledger {
         ensures refused { IfErr result (λ fault. RefusesStart (H.hash_of hash.now) initial fault) }
     {
         let empty_root = hash.hash(b"");
-        if let Some(fault) = fault_of(&empty_root, &initial) {
-            return Err(fault);
-        }
-        let tip_id = block_id(alloc, hash, &initial.header)?;
+        let tip_id = initial_id(alloc, hash, &empty_root, &initial)?;
         let mut blocks = Blocks::new(alloc);
         blocks.push(initial)?;
         Ok(Ledger {
@@ -38,6 +36,25 @@ impl Ledger {
             empty_root,
         })
     }
+}
+
+// The id of a block that starts a chain, where this is the root of no ids.
+fn initial_id<H: IdHash>(
+    alloc: Global,
+    hash: &H,
+    root: &Id,
+    block: &Block,
+) -> Result<Id, StartFault>
+    requires root { root.now ≡ root_of_none (H.hash_of hash.now) }
+    requires header { IsHeader block.now.header }
+    ensures initial { IfOk result (λ _. StartRefusal (H.hash_of hash.now) block.now None) }
+    ensures id { IfOk result (λ id. id ≡ header_id (H.hash_of hash.now) block.now.header) }
+    ensures refused { IfErr result (λ fault. RefusesStart (H.hash_of hash.now) block.now fault) }
+{
+    if let Some(fault) = fault_of(root, block) {
+        return Err(fault);
+    }
+    Ok(block_id(alloc, hash, &block.header)?)
 }
 
 // The first of I1 to I5 that holds.
