@@ -1,7 +1,8 @@
-use crate::rows::bytes_of;
+ghost use Rattle.data_model.specs.Spelling.{IsBlock};
+
 use data_model::{
-    Blocks, Control, Ids, Input, Inputs, Issue, Output, OutputBody, Outputs, Retire, Spend, Tx,
-    Txs, decode_block, encode_block, frame, read_blocks,
+    Block, Control, Ids, Input, Inputs, Issue, Output, OutputBody, Outputs, Retire, Spend, Tx, Txs,
+    decode_block, encode_block, encode_header, frame, read_blocks,
 };
 use std::alloc::Global;
 use std::test::Fail;
@@ -9,48 +10,65 @@ use wire::{Args, Bytes, NoMemory};
 
 // Version 1, height 1, 32 zero bytes, time 1, twice the hash of nothing, the program 51, the arguments 61 and 6263, and
 // no transaction.
-const BLOCK: &str = "01010000000000000000000000000000000000000000000000000000000000000000\
-    01e3b0c44298fc1c149afbf4c8996fb92427ae41e4649b934ca495991b7852b855\
-    e3b0c44298fc1c149afbf4c8996fb92427ae41e4649b934ca495991b7852b855015102016102626300";
+const BLOCK: &[u8; 108] = b"\x01\x01\
+    \0\0\0\0\0\0\0\0\0\0\0\0\0\0\0\0\0\0\0\0\0\0\0\0\0\0\0\0\0\0\0\0\x01\
+    \xe3\xb0\xc4\x42\x98\xfc\x1c\x14\x9a\xfb\xf4\xc8\x99\x6f\xb9\x24\
+    \x27\xae\x41\xe4\x64\x9b\x93\x4c\xa4\x95\x99\x1b\x78\x52\xb8\x55\
+    \xe3\xb0\xc4\x42\x98\xfc\x1c\x14\x9a\xfb\xf4\xc8\x99\x6f\xb9\x24\
+    \x27\xae\x41\xe4\x64\x9b\x93\x4c\xa4\x95\x99\x1b\x78\x52\xb8\x55\
+    \x01\x51\x02\x01\x61\x02\x62\x63\x00";
+
+// A copy of the block, spelled again.
+fn block_again(alloc: Global, block: &Block) -> Result<Vec<u8>, NoMemory>
+    requires { IsBlock block.now }
+{
+    encode_block(alloc, &block.copy(alloc)?)
+}
 
 #[test]
 fn blocks_again(rt: HostRuntime) -> Result<(), Fail> {
-    let alloc = rt.alloc();
-    let bytes = bytes_of(alloc, BLOCK)?;
-    let block = decode_block(alloc, &bytes)?.copy(alloc)?;
-    assert_eq!(rt; block.args.len(), 2);
-    assert_eq!(rt; encode_block(alloc, &block)?.as_slice(), bytes.as_slice());
-    let file = frame(alloc, &block)?;
-    assert_eq!(rt;
-        file.as_slice().split_first(),
-        Some((&108, bytes.as_slice()))
-    );
-    assert_eq!(rt; read_blocks(alloc, &file)?.len(), 1);
-    let mut blocks = Blocks::new(alloc);
-    blocks.push(block)?;
-    let mut ids = Ids::new(alloc);
-    ids.push([1; 32])?;
-    assert_eq!(rt; (blocks.len(), ids.len()), (1, 1));
+    let block = decode_block(rt.alloc(), BLOCK)?;
+    assert!(rt; block_again(rt.alloc(), &block)?.as_slice() == BLOCK.as_slice());
+    assert!(rt; encode_header(rt.alloc(), &block.header)?.as_slice() == &BLOCK[..101]);
+    // behind the length of one byte
+    let file = frame(rt.alloc(), &block)?;
+    assert!(rt; file.len() == 109 && file.as_slice().first() == Some(&108));
+    assert!(rt; read_blocks(rt.alloc(), &file)?.len() == 1);
     Ok(())
 }
 
-// An issuance, and a spend of the output of this body.
-fn inputs(alloc: Global, body: &OutputBody) -> Result<Inputs, NoMemory> {
-    let mut inputs = Inputs::new(alloc);
-    inputs.push(Input::Issue(Issue {
-        nonce: Bytes::from_slice(alloc, &[1])?,
+fn issue(alloc: Global) -> Issue {
+    Issue {
+        nonce: Bytes::new(alloc),
         asset: [3; 32],
         amount: 5,
         program: Bytes::new(alloc),
         definition: Bytes::new(alloc),
         refdata: Bytes::new(alloc),
         args: Args::new(alloc),
-    }))?;
-    inputs.push(Input::Spend(Spend {
-        from: body.copy(alloc)?,
+    }
+}
+
+fn spend(alloc: Global) -> Spend {
+    Spend {
+        from: OutputBody {
+            source: [1; 32],
+            position: 2,
+            asset: [3; 32],
+            amount: 4,
+            program: Bytes::new(alloc),
+            data_hash: [4; 32],
+        },
         refdata: Bytes::new(alloc),
         args: Args::new(alloc),
-    }))?;
+    }
+}
+
+// An issuance, and a spend.
+fn inputs(alloc: Global) -> Result<Inputs, NoMemory> {
+    let mut inputs = Inputs::new(alloc);
+    inputs.push(Input::Issue(issue(alloc)))?;
+    inputs.push(Input::Spend(spend(alloc)))?;
     Ok(inputs)
 }
 
@@ -72,31 +90,42 @@ fn outputs(alloc: Global) -> Result<Outputs, NoMemory> {
 }
 
 fn transaction(alloc: Global) -> Result<Tx, NoMemory> {
-    let body = OutputBody {
-        source: [1; 32],
-        position: 2,
-        asset: [3; 32],
-        amount: 4,
-        program: Bytes::new(alloc),
-        data_hash: [4; 32],
-    };
     Ok(Tx {
         version: 1,
         mintime: 0,
         maxtime: 5,
         refdata: Bytes::from_slice(alloc, &[7])?,
-        inputs: inputs(alloc, &body)?,
+        inputs: inputs(alloc)?,
         outputs: outputs(alloc)?,
     })
 }
 
+// A list of one transaction, which is a copy.
+fn copies(alloc: Global, tx: &Tx) -> Result<Txs, NoMemory> {
+    let mut txs = Txs::new(alloc);
+    txs.push(tx.copy(alloc)?)?;
+    Ok(txs)
+}
+
+fn has_all(tx: &Tx) -> bool {
+    (tx.inputs.len(), tx.outputs.len()) == (2, 2) && tx.refdata.as_slice() == b"\x07".as_slice()
+}
+
 #[test]
-fn transactions(rt: HostRuntime) -> Result<(), Fail> {
-    let tx = transaction(rt.alloc())?.copy(rt.alloc())?;
-    assert_eq!(rt; (tx.inputs.len(), tx.outputs.len()), (2, 2));
-    assert_eq!(rt; tx.refdata.as_slice(), [7].as_slice());
-    let mut txs = Txs::new(rt.alloc());
-    txs.push(tx)?;
-    assert_eq!(rt; txs.len(), 1);
+fn copies_of_transactions(rt: HostRuntime) -> Result<(), Fail> {
+    let tx = transaction(rt.alloc())?;
+    let txs = copies(rt.alloc(), &tx)?;
+    assert!(rt; txs.len() == 1);
+    for copy in txs.as_slice() {
+        assert!(rt; has_all(copy));
+    }
+    Ok(())
+}
+
+#[test]
+fn lists_of_ids(rt: HostRuntime) -> Result<(), Fail> {
+    let mut ids = Ids::new(rt.alloc());
+    ids.push([1; 32])?;
+    assert!(rt; ids.len() == 1);
     Ok(())
 }

@@ -1,30 +1,15 @@
-use crate::rows::id_of;
 use keyed::{IdHash, NoSigs, Sha256Id, SigCheck};
-use std::test::Fail;
 
-fn hash_with<H: IdHash>(hash: &H, bytes: &[u8]) -> [u8; 32] {
-    hash.hash(bytes)
-}
+// The digests of the empty text and of `abc` that FIPS 180-4 has as examples.
+const EMPTY: &[u8; 32] = b"\xe3\xb0\xc4\x42\x98\xfc\x1c\x14\x9a\xfb\xf4\xc8\x99\x6f\xb9\x24\
+    \x27\xae\x41\xe4\x64\x9b\x93\x4c\xa4\x95\x99\x1b\x78\x52\xb8\x55";
 
-fn good_with<C: SigCheck>(sigs: &C, key: &[u8], msg: &[u8], sig: &[u8]) -> bool {
-    sigs.good(key, msg, sig)
-}
-
-// The examples of FIPS 180-4.
-const EMPTY: &str = "e3b0c44298fc1c149afbf4c8996fb92427ae41e4649b934ca495991b7852b855";
-
-const ABC: &str = "ba7816bf8f01cfea414140de5dae2223b00361a396177a9cb410ff61f20015ad";
+const ABC: &[u8; 32] = b"\xba\x78\x16\xbf\x8f\x01\xcf\xea\x41\x41\x40\xde\x5d\xae\x22\x23\
+    \xb0\x03\x61\xa3\x96\x17\x7a\x9c\xb4\x10\xff\x61\xf2\x00\x15\xad";
 
 #[test]
-fn hashes_of_the_standard(rt: HostRuntime) -> Result<(), Fail> {
-    assert_eq!(rt; hash_with(&Sha256Id, b""), id_of(rt.alloc(), EMPTY)?);
-    assert_eq!(rt; hash_with(&Sha256Id, b"abc"), id_of(rt.alloc(), ABC)?);
-    Ok(())
-}
-
-#[test]
-fn no_signature_is_good(rt: HostRuntime) {
-    for sig in [b"".as_slice(), b"\x00", b"key"] {
-        assert!(rt; !good_with(&NoSigs, b"key", b"message", sig));
-    }
+fn hashes_and_signatures(rt: HostRuntime) {
+    assert!(rt; Sha256Id.hash(b"") == *EMPTY);
+    assert!(rt; Sha256Id.hash(b"abc") == *ABC);
+    assert!(rt; !NoSigs.good(b"key", b"message", b"\x00"));
 }

@@ -15,13 +15,9 @@ mod ledger_core_calls;
 mod outside_calls;
 pub mod page;
 #[cfg(test)]
-mod rows;
-#[cfg(test)]
 mod vm_code_calls;
 #[cfg(test)]
 mod vm_num_calls;
-#[cfg(test)]
-mod vm_num_operations;
 #[cfg(test)]
 mod vm_ops_calls;
 #[cfg(test)]

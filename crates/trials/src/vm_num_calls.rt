@@ -1,111 +1,84 @@
-use crate::rows::{bytes_of, fields_of};
-use std::test::Fail;
-use vm_num::{Failure, add, push_bytes, push_int, read_num, sub, truth, write_num};
+use std::alloc::Global;
+use vm_num::{add, div, mul, push_bytes, push_int, read_num, rem, shl, shr, sub, truth, write_num};
 
-// Numbers with their spellings, by Python's `n.to_bytes(8, 'little', signed=True).rstrip(b'\0')`.
-const SPELLINGS: &str = "0 -
-1 01
--1 ffffffffffffffff
-127 7f
-128 80
-255 ff
-256 0001
-9223372036854775807 ffffffffffffff7f
--9223372036854775808 0000000000000080";
-
+// By Python's exact numbers. The crate `calls` plays more.
 #[test]
-fn spells_and_reads_numbers(rt: HostRuntime) -> Result<(), Fail> {
-    for row in SPELLINGS.lines() {
-        let (number, word) = row.split_once(' ').ok_or("a row")?;
-        let n = number.parse::<i64>()?;
-        let bytes = bytes_of(rt.alloc(), word)?;
-        assert_eq!(rt; write_num(n).as_slice(), bytes.as_slice(), "{row}");
-        assert_eq!(rt; read_num(&bytes), Some(n), "{row}");
-    }
-    assert_eq!(rt; read_num(&[0; 8]), Some(0));
-    assert_eq!(rt; read_num(&[0; 9]), None);
-    Ok(())
+fn operations_on_numbers(rt: HostRuntime) {
+    assert!(rt; [add(7, -2), sub(7, -2), mul(7, -2)] == [Some(5), Some(9), Some(-14)]);
+    assert!(rt; [div(7, -2), rem(7, -2)] == [Some(-3), Some(1)]);
+    assert!(rt; [shl(-7, 2), shr(-7, 2)] == [Some(-28), Some(-2)]);
 }
 
-// Two numbers, their sum and their difference; - where it is no 64-bit number.
-const SUMS: &str = "2 3 5 -1
-9223372036854775807 1 - 9223372036854775806
--9223372036854775808 1 -9223372036854775807 -
-0 -9223372036854775808 -9223372036854775808 -
-9223372036854775807 -9223372036854775808 -1 -";
+// Numbers with their spellings, by Python's `n.to_bytes(8, 'little', signed=True).rstrip(b'\0')`.
+const SPELLINGS: [(i64, &[u8]); 9] = [
+    (0, b""),
+    (1, b"\x01"),
+    (-1, b"\xff\xff\xff\xff\xff\xff\xff\xff"),
+    (127, b"\x7f"),
+    (128, b"\x80"),
+    (255, b"\xff"),
+    (256, b"\x00\x01"),
+    (i64::MAX, b"\xff\xff\xff\xff\xff\xff\xff\x7f"),
+    (i64::MIN, b"\x00\x00\x00\x00\x00\x00\x00\x80"),
+];
+
+// The first number that is spelled, or whose spelling is read, in another way.
+fn misspelled() -> Option<i64> {
+    for (number, spelling) in &SPELLINGS {
+        let is_read = read_num(spelling) == Some(*number) && truth(spelling) == (*number != 0);
+        if !is_read || write_num(*number).as_slice() != *spelling {
+            return Some(*number);
+        }
+    }
+    None
+}
 
 #[test]
-fn adds_and_subtracts(rt: HostRuntime) -> Result<(), Fail> {
-    for row in SUMS.lines() {
-        let fields = fields_of(rt.alloc(), row)?;
-        let [a, b, sum, difference] = fields.as_slice() else {
-            return Err(Fail::from("a row"));
-        };
-        let (a, b) = (a.parse::<i64>()?, b.parse::<i64>()?);
-        assert_eq!(rt; add(a, b), sum.parse::<i64>().ok(), "{row}");
-        assert_eq!(rt; sub(a, b), difference.parse::<i64>().ok(), "{row}");
-    }
-    Ok(())
+fn spells_and_reads_numbers(rt: HostRuntime) {
+    assert_eq!(rt; misspelled(), None);
 }
 
 // So many bytes, and what stands before them in their shortest push.
-const FRONTS: &str = "0 00
-1 01
-75 4b
-76 4c4c
-255 4cff
-256 4d0001
-65535 4dffff
-65536 4e00000100";
+const FRONTS: [(u32, &[u8]); 8] = [
+    (0, b"\x00"),
+    (1, b"\x01"),
+    (75, b"\x4b"),
+    (76, b"\x4c\x4c"),
+    (255, b"\x4c\xff"),
+    (256, b"\x4d\x00\x01"),
+    (65535, b"\x4d\xff\xff"),
+    (65536, b"\x4e\x00\x00\x01\x00"),
+];
+
+fn is_front(alloc: Global, len: u32, front: &[u8]) -> bool {
+    let Ok(item) = vec![in alloc; 0xabu8; len as usize] else {
+        return false;
+    };
+    let mut out = Vec::new(alloc);
+    push_bytes(&mut out, &item).is_ok() && out.strip_prefix(front) == Some(item.as_slice())
+}
+
+// Numbers, and their shortest pushes.
+const PUSHES: [(i64, &[u8]); 6] = [
+    (-1, b"\x4f"),
+    (0, b"\x00"),
+    (1, b"\x51"),
+    (16, b"\x60"),
+    (17, b"\x01\x11"),
+    (-2, b"\x08\xfe\xff\xff\xff\xff\xff\xff\xff"),
+];
+
+fn is_push(alloc: Global, number: i64, push: &[u8]) -> bool {
+    let mut out = Vec::new(alloc);
+    push_int(&mut out, number).is_ok() && out.as_slice() == push
+}
 
 #[test]
-fn pushes_bytes(rt: HostRuntime) -> Result<(), Fail> {
-    for row in FRONTS.lines() {
-        let (len, word) = row.split_once(' ').ok_or("a row")?;
-        let item = vec![in rt.alloc(); 0xabu8; len.parse::<u32>()? as usize]?;
-        let mut wanted = bytes_of(rt.alloc(), word)?;
-        wanted.extend_from_slice(&item)?;
-        let mut out = Vec::new(rt.alloc());
-        push_bytes(&mut out, &item)?;
-        assert!(rt; out.as_slice() == wanted.as_slice(), "{row}");
+fn shortest_pushes(rt: HostRuntime) {
+    for (len, front) in &FRONTS {
+        assert!(rt; is_front(rt.alloc(), *len, front), "{len}");
     }
-    Ok(())
-}
-
-const PUSHES: &str = "-1 4f
-0 00
-1 51
-16 60
-17 0111
--2 08feffffffffffffff";
-
-#[test]
-fn pushes_numbers(rt: HostRuntime) -> Result<(), Fail> {
-    for row in PUSHES.lines() {
-        let (number, word) = row.split_once(' ').ok_or("a row")?;
-        let mut out = Vec::new(rt.alloc());
-        push_int(&mut out, number.parse::<i64>()?)?;
-        assert_eq!(rt;
-            out.as_slice(),
-            bytes_of(rt.alloc(), word)?.as_slice(),
-            "{row}"
-        );
+    for (number, push) in &PUSHES {
+        assert!(rt; is_push(rt.alloc(), *number, push), "{number}");
     }
-    Ok(())
-}
-
-#[test]
-fn reads_truth(rt: HostRuntime) {
-    assert!(rt; !truth(&[]));
-    assert!(rt; !truth(&[0, 0]));
-    assert!(rt; truth(&[0, 0x80]));
-    assert!(rt; truth(&[0, 0, 0, 0, 0, 0, 0, 0, 1, 0]));
-}
-
-#[test]
-fn prints_failures(rt: HostRuntime) -> Result<(), Fail> {
-    let failure = Failure::VerifyFalse;
-    let printed = format!(in rt.alloc(); "{failure}")?;
-    assert_eq!(rt; printed.as_str(), "VerifyFalse");
-    Ok(())
 }

@@ -1,112 +1,51 @@
 // What is expected is worked out by hand from the lines of the code table for DROP, PICK, ROLL, TOALTSTACK and
-// FROMALTSTACK; an item costs 8 and its length.
+// FROMALTSTACK; an item costs 8 and its length. The crate `calls` plays more moves.
 use keyed::Pile;
 use std::alloc::Global;
-use std::test::Fail;
 use vm_stack::{Stack, StackFault};
 
-#[derive(Clone, Copy, Debug)]
-enum Call {
-    Drop(u64),
-    Pick(u64),
-    Roll(u64),
-    ToAlt,
-    FromAlt,
-}
-
-fn made(stack: &mut Stack, call: Call) -> Result<(), StackFault> {
-    match call {
-        Call::Drop(n) => stack.drop_top(n),
-        Call::Pick(n) => stack.pick(n),
-        Call::Roll(n) => stack.roll(n),
-        Call::ToAlt => stack.to_alt(),
-        Call::FromAlt => stack.from_alt(),
-    }
-}
-
-// The items `a`, `bb` and, on top, the empty one; `dddd` on the alt stack.
+// `a`, `bb` and, on top, the empty item; `dddd` on the alt stack.
 fn four_items(alloc: Global) -> Result<Stack, StackFault> {
     let mut stack = Stack::new(alloc);
     stack.push(b"dddd")?;
     stack.to_alt()?;
-    for item in [b"a".as_slice(), b"bb", b""] {
-        stack.push(item)?;
-    }
+    stack.push(b"a")?;
+    stack.push_vec(b"bb".to_vec(alloc)?)?;
+    stack.push(b"")?;
     Ok(stack)
 }
 
-// The data stack has these items and no more, the top first.
-fn shows(stack: &Stack, items: &[&[u8]]) -> bool {
-    let all = items
-        .iter()
-        .enumerate()
-        .all(|(k, item)| stack.item(k as u64) == Some(*item));
-    all && stack.depth() == items.len() as u64 && stack.item(stack.depth()).is_none()
+// So far below the top stands this item.
+fn shows(stack: &Stack, k: u64, item: &[u8]) -> bool {
+    stack.item(k) == Some(item)
 }
 
-#[test]
-fn calls_of_the_table(rt: HostRuntime) -> Result<(), Fail> {
-    let (a, bb, none, dddd) = (
-        b"a".as_slice(),
-        b"bb".as_slice(),
-        b"".as_slice(),
-        b"dddd".as_slice(),
-    );
-    let rows: [(Call, Result<(), StackFault>, &[&[u8]], u64, u64); 12] = [
-        (Call::Drop(0), Ok(()), &[none, bb, a], 1, 39),
-        (Call::Drop(2), Ok(()), &[a], 1, 21),
-        (Call::Drop(3), Ok(()), &[], 1, 12),
-        (
-            Call::Drop(4),
-            Err(StackFault::Underflow),
-            &[none, bb, a],
-            1,
-            39,
-        ),
-        (Call::Pick(0), Ok(()), &[none, none, bb, a], 1, 47),
-        (Call::Pick(2), Ok(()), &[a, none, bb, a], 1, 48),
-        (
-            Call::Pick(3),
-            Err(StackFault::Underflow),
-            &[none, bb, a],
-            1,
-            39,
-        ),
-        (Call::Roll(0), Ok(()), &[none, bb, a], 1, 39),
-        (Call::Roll(2), Ok(()), &[a, none, bb], 1, 39),
-        (
-            Call::Roll(3),
-            Err(StackFault::Underflow),
-            &[none, bb, a],
-            1,
-            39,
-        ),
-        (Call::ToAlt, Ok(()), &[bb, a], 2, 39),
-        (Call::FromAlt, Ok(()), &[dddd, none, bb, a], 0, 39),
-    ];
-    for (call, answer, items, alt, held) in rows {
-        let mut stack = four_items(rt.alloc())?;
-        assert_eq!(rt; made(&mut stack, call), answer, "{call:?}");
-        assert!(rt; shows(&stack, items), "{call:?}");
-        assert_eq!(rt; (stack.alt_depth(), stack.held()), (alt, held), "{call:?}");
-    }
-    Ok(())
+// The data stack has so many items and the other one so many, and together they cost so much.
+fn holds(stack: &Stack, depth: u64, alt_depth: u64, held: u64) -> bool {
+    stack.depth() == depth && stack.alt_depth() == alt_depth && stack.held() == held
 }
 
-#[test]
-fn empty_stacks_and_parts(rt: HostRuntime) -> Result<(), Fail> {
-    let mut stack = Stack::new(rt.alloc());
-    assert_eq!(rt; stack.to_alt(), Err(StackFault::Underflow));
-    assert_eq!(rt; stack.from_alt(), Err(StackFault::AltUnderflow));
-    stack.push_vec(b"ccc".to_vec(rt.alloc())?)?;
-    assert!(rt; shows(&stack, &[b"ccc"]));
-    assert_eq!(rt; stack.held(), 11);
+// `bb` is copied to the top and dropped, `a` comes up, and `dddd` comes back.
+fn moves(alloc: Global) -> Result<bool, StackFault> {
+    let mut stack = four_items(alloc)?;
+    stack.pick(1)?;
+    stack.drop_top(1)?;
+    stack.roll(2)?;
+    stack.from_alt()?;
+    let is_moved = shows(&stack, 0, b"dddd") && shows(&stack, 1, b"a") && shows(&stack, 3, b"bb");
+    Ok(is_moved && holds(&stack, 4, 0, 39))
+}
 
-    let mut stack = four_items(rt.alloc())?;
-    assert_eq!(rt; stack.split_top(4).err(), Some(StackFault::Underflow));
+// The two items on top are taken off, with their cost.
+fn splits(alloc: Global) -> Result<bool, StackFault> {
+    let mut stack = four_items(alloc)?;
     let top = stack.split_top(2)?;
-    assert!(rt; shows(&top, &[b"", b"bb"]) && shows(&stack, &[b"a"]));
-    assert_eq!(rt; (top.alt_depth(), top.held()), (0, 18));
-    assert_eq!(rt; (stack.alt_depth(), stack.held()), (1, 21));
-    Ok(())
+    let is_split = shows(&top, 0, b"") && shows(&top, 1, b"bb") && shows(&stack, 0, b"a");
+    Ok(is_split && holds(&top, 2, 0, 18) && holds(&stack, 1, 1, 21))
+}
+
+#[test]
+fn moves_and_splits(rt: HostRuntime) {
+    assert!(rt; moves(rt.alloc()) == Ok(true));
+    assert!(rt; splits(rt.alloc()) == Ok(true));
 }
