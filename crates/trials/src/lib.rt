@@ -15,6 +15,12 @@ mod ledger_core_calls;
 mod outside_calls;
 pub mod page;
 #[cfg(test)]
+mod signatures;
+#[cfg(test)]
+mod transaction_ids;
+#[cfg(test)]
+mod transactions;
+#[cfg(test)]
 mod vm_code_calls;
 #[cfg(test)]
 mod vm_num_calls;

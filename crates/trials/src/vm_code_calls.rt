@@ -16,7 +16,7 @@ const PLACES: [(&[u8], u64, u8, &[u8], u32, u64); 9] = [
 ];
 
 // Programs and their texts, each code but most of the data codes once.
-const TEXTS: [(&[u8], &str); 22] = [
+const TEXTS: [(&[u8], &str); 24] = [
     (b"", ""),
     (b"\x00", "FALSE"),
     (b"\x4f", "1NEGATE"),
@@ -50,7 +50,9 @@ const TEXTS: [(&[u8], &str); 22] = [
         "LESSTHAN GREATERTHAN LESSTHANOREQUAL GREATERTHANOREQUAL MIN MAX WITHIN",
     ),
     (b"\xa8", "SHA256"),
+    (b"\xac\xad", "CHECKSIG CHECKMULTISIG"),
     (b"\xaf", "BLOCKHASH"),
+    (b"\xc0", "CHECKPREDICATE"),
     (b"\xc4", "PROGRAM"),
     (b"\xcd\xce", "NEXTPROGRAM BLOCKTIME"),
     (b"\x52\x53\x93\x55\x9c", "2 3 ADD 5 NUMEQUAL"),
@@ -75,7 +77,7 @@ const FAULTS: [(&[u8], CodeFault); 6] = [
     (b"\x51\x4c\xaa", CodeFault::Short),
     (b"\x51\x01", CodeFault::Short),
     (b"\x51\x63\x00\x00\x00", CodeFault::Short),
-    (b"\xac", CodeFault::BadOpcode),
+    (b"\xcc", CodeFault::BadOpcode),
 ];
 
 // Texts that are none, and the first byte of the first word that is none.
@@ -118,7 +120,7 @@ const BAD: [(Option<u64>, &str); 40] = [
     (Some(0), "JUMPIF:18446744073709551617"),
     (Some(9), "JUMPIF:0 JUMPIF:1a"),
     (Some(0), "ADD\tSUB"),
-    (Some(0), "CHECKSIG"),
+    (Some(0), "CHECKSIGN"),
     (Some(0), "é"),
 ];
 
