@@ -1,14 +1,15 @@
 -- Headers and blocks are the values of their layouts.
-use Rattle.std.proofs.Common.{◌≡◌, ℕ, ◌+◌, ◌≤◌, ◌<◌, ◌^◌, List, [], ◌∷◌, ◌++◌, length, Result, Ok, Err, refl, sym, ap, subst, ◌∙◌, append_assoc, arith}
+use Rattle.std.proofs.Common.{◌≡◌, ℕ, ◌≤◌, ◌<◌, ◌^◌, List, [], ◌∷◌, ◌++◌, length, Ok, Err, refl, sym, ap, ◌∙◌, append_assoc, arith}
 use Rattle.std.specs.List.{AllByRecursion}
 use Rattle.std.proofs.lemmas.List.{nil_from_length}
-use Rattle.wire.specs.Spelling.{AreBytes, varint, varstring}
-use Rattle.wire.specs.Places.{Place, Fault, Reading, start, mapped, then_at, number_at, whole_at}
+use Rattle.wire.specs.Spelling.{varint, varstring}
+use Rattle.wire.specs.Places.{Place, Reading, mapped, then_at, number_at, whole_at}
 use Rattle.wire.specs.Layout.{Text, Value, Fits, IsNumber, spelling, read_at}
-use Rattle.wire.specs.FirstFault.{FirstFault, WholeFault, FirstFaultOfAll}
-use Rattle.wire.specs.Readers.{IsReader, IsWholeReader, FaultAt}
-use Rattle.wire.specs.LayoutLaws.{SpellingLaws, LayoutLaws}
-use Rattle.wire.specs.Records.{StandFor, mapped_reader, same_reader, left_there, left_back, mapped-mapped, both_of, then_same}
+use Rattle.wire.specs.FirstFault.{FirstFault}
+use Rattle.wire.specs.Readers.{IsReader, IsWholeReader}
+use Rattle.wire.specs.LayoutLaws.{SpellingLaws, LayoutLaws, RecordLaws}
+use Rattle.wire.specs.Declaring.{record_laws}
+use Rattle.wire.specs.Records.{StandFor, mapped_reader, same_reader, mapped-mapped, both_of, then_same}
 use Rattle.data_model.specs.declared.header.Header.{Header}
 use Rattle.data_model.specs.declared.block.Block.{Block}
 use Rattle.data_model.specs.Layout.{greatest, longest, most_txs, args_layout, header_layout, block_layout, header_parts, header_made, block_parts, block_of, block_made}
@@ -126,48 +127,16 @@ block_reader laws =
 
 -- ---- the laws of both
 
-abbrev refused : Fault → Result Block Fault
-refused f = Err f
-
-abbrev given : Block → Result Block Fault
-given block = Ok block
-
-same_given : (a b : Block) → given a ≡ given b → a ≡ b
-same_given a b e = cc
-
-same_refused : (f g : Fault) → refused f ≡ refused g → f ≡ g
-same_refused f g e = cc
-
-module _ (layouts : LayoutLaws) (headers : SpellingLaws IsHeader header_spelling (FirstFault header_layout)) (blocks : IsWholeReader IsBlock block_spelling (FirstFault block_layout) (whole_at next_block_at)) where
-  block_fault : (bytes : List ℕ) (f : Fault) → AreBytes bytes → block_at bytes ≡ Err f → FirstFaultOfAll block_layout bytes f.at f.kind
-  unfolding block_at
-  block_fault bytes f b e =
-      let h : FaultAt (WholeFault IsBlock block_spelling (FirstFault block_layout)) (start bytes) f = rw e at (blocks.sound (start bytes) b) in
-      let at : h.off ≡ f.at = omega (arith, h.at) in
-      left_back _ _ _ _ (FirstFault block_layout) block_made block_stand bytes f.at f.kind (subst (λ (n : ℕ). WholeFault IsBlock block_spelling (FirstFault block_layout) bytes n f.kind) at h.first)
-
-  block_told : (bytes : List ℕ) (f : Fault) → AreBytes bytes → FirstFaultOfAll block_layout bytes f.at f.kind → block_at bytes ≡ Err f
-  unfolding block_at
-  block_told bytes f b h =
-      let here : 0 + f.at ≡ f.at = omega arith in
-      blocks.told (start bytes) f.at f.kind b (left_there _ _ IsBlock block_spelling (FirstFault block_layout) block_made block_stand bytes f.at f.kind h)
-      ∙ (λ i. refused (record { at = here i; kind = f.kind }))
-
-  block_again : (block : Block) → IsBlock block → block_at (block_spelling block) ≡ Ok block
-  unfolding block_at
-  block_again block h = blocks.again (start (block_spelling block)) block h refl
-
-  block_read : (bytes : List ℕ) (block : Block) → AreBytes bytes → block_at bytes ≡ Ok block → IsBlock block × (bytes ≡ block_spelling block)
-  unfolding block_at
-  block_read bytes block b e = rw e at (blocks.sound (start bytes) b)
-
-  pub block_laws : BlockLaws
-  block_laws = record {
-    spelled = block_read;
-    again = block_again;
-    one_form = λ a b ha hb e. same_given a b (sym (block_again a ha) ∙ ap block_at e ∙ block_again b hb);
-    one_header = λ a b x y ha hb e. headers.one_form a b x y ha hb e;
-    fault = λ bytes f b. (block_fault bytes f b, block_told bytes f b);
-    within = layouts.all_within block_layout;
-    one_fault = λ bytes f g b hf hg. same_refused f g (sym (block_told bytes f b hf) ∙ block_told bytes g b hg);
-  }
+pub block_laws : LayoutLaws → SpellingLaws IsHeader header_spelling (FirstFault header_layout) → SpellingLaws IsBlock block_spelling (FirstFault block_layout) → IsWholeReader IsBlock block_spelling (FirstFault block_layout) (whole_at next_block_at) → BlockLaws
+unfolding block_at
+block_laws layouts headers blocks whole =
+    let laws : RecordLaws block_layout IsBlock block_spelling block_at = record_laws block_layout IsBlock block_spelling block_made block_stand layouts blocks next_block_at whole in
+    record {
+      spelled = laws.spelled;
+      again = laws.again;
+      one_form = λ a b ha hb e. (laws.one_form a b [] [] ha hb (ap (λ (bytes : List ℕ). bytes ++ []) e)).0;
+      one_header = λ a b x y ha hb e. headers.one_form a b x y ha hb e;
+      fault = laws.fault;
+      within = laws.within;
+      one_fault = laws.one_fault;
+    }

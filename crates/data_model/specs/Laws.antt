@@ -8,7 +8,7 @@ use Rattle.wire.specs.FirstFault.{FirstFaultOfAll}
 use Rattle.data_model.specs.Layout.{block_layout}
 use Rattle.data_model.specs.Spelling.{IsHeader, IsBlock, header_spelling, block_spelling}
 use Rattle.data_model.specs.Reading.{Fault, block_at}
-use Rattle.wire.specs.Declaring.{RecordLaws}
+use Rattle.wire.specs.LayoutLaws.{RecordLaws}
 use Rattle.data_model.specs.Transaction.{tx_layout, IsTx, tx_spelling}
 use Rattle.data_model.specs.TransactionReading.{tx_at}
 

@@ -1,39 +1,19 @@
 -- Records that are declared: a layout, the parts of a record, the record that is made of them, and a reader of it, each
--- put together from those of its fields. What holds of the reading of such a record.
-use Rattle.std.specs.Prelude.{◌≡◌, ◌≤◌, ◌<◌, ◌↔◌, ◌++◌, ◌+◌, ℕ, zero, suc, List, [], ◌∷◌, map, length, Option, Result}
+-- put together from those of its fields; and that the laws of records hold of them.
+use Rattle.std.specs.Prelude.{◌≡◌, ◌<◌, ◌+◌, ℕ, zero, suc, List, [], ◌∷◌, map, Option, Result}
 use Rattle.std.specs.Prelude.{Ok, Err, refl}
 use Rattle.std.specs.List.{AllByRecursion}
 use Rattle.std.proofs.Common.{sym, ap, subst, ◌∙◌, arith}
-use Rattle.wire.specs.declared.fault.DataKind.{DataKind}
 use Rattle.wire.specs.Spelling.{AreBytes}
 use Rattle.wire.specs.Places.{Place, Fault, Reading, ◌>>=◌, mapped, start, then_at, kind_at, many_at, whole_at}
 use Rattle.wire.specs.Layout.{Layout, Then, Many, Kinds, or_else, only, Value, Fits, spelling, read_at}
 use Rattle.wire.specs.FirstFault.{WholeFault, FirstFault, FirstFaultOfAll}
 use Rattle.wire.specs.Readers.{FaultAt, WholeAnswers, IsReader, IsWholeReader}
-use Rattle.wire.specs.LayoutLaws.{SpellingLaws, LayoutLaws}
+use Rattle.wire.specs.LayoutLaws.{SpellingLaws, LayoutLaws, RecordLaws}
 use Rattle.wire.specs.Records.{StandFor, left_there, left_back, same_reader, HasParts, record_reader, both_of}
 use Rattle.wire.specs.Records.{then_same, many_same, kinds_same, mapped-mapped}
 
 -- ---- what holds of the reading of a record
-
-pub record RecordLaws {X : Type 0} (layout : Layout) (fits : X → Type 0) (spell : X → List ℕ)
-    (read : List ℕ → Result X Fault) : Type 0 where
-  -- what is read is spelled so
-  pub spelled : (bytes : List ℕ) (x : X) → AreBytes bytes → read bytes ≡ Ok x → fits x × (bytes ≡ spell x)
-  -- what is spelled is read again
-  pub again : (x : X) → fits x → read (spell x) ≡ Ok x
-  -- two spellings of two values are different, and none begins another
-  pub one_form : (a b : X) (x y : List ℕ) → fits a → fits b → spell a ++ x ≡ spell b ++ y → (a ≡ b) × (x ≡ y)
-  -- what is told of other bytes is their first fault
-  pub fault : (bytes : List ℕ) (f : Fault) → AreBytes bytes
-      → (read bytes ≡ Err f) ↔ FirstFaultOfAll layout bytes f.at f.kind
-  -- bytes have at most one
-  pub one_fault : (bytes : List ℕ) (f g : Fault) → AreBytes bytes
-      → FirstFaultOfAll layout bytes f.at f.kind
-      → FirstFaultOfAll layout bytes g.at g.kind
-      → f ≡ g
-  -- it stands at one of the bytes, or at their end
-  pub within : (bytes : List ℕ) (at : ℕ) (kind : DataKind) → FirstFaultOfAll layout bytes at kind → at ≤ length bytes
 
 abbrev given : {X : Type 0} → X → Result X Fault
 given x = Ok x

@@ -1,5 +1,5 @@
 -- What holds of all layouts, and of each record that is one.
-use Rattle.std.specs.Prelude.{◌≡◌, ◌≤◌, ℕ, List, ◌++◌, length, Result, Ok, Err}
+use Rattle.std.specs.Prelude.{◌≡◌, ◌≤◌, ◌↔◌, ℕ, List, ◌++◌, length, Result, Ok, Err}
 use Rattle.wire.specs.declared.fault.DataKind.{DataKind}
 use Rattle.wire.specs.Spelling.{AreBytes}
 use Rattle.wire.specs.Places.{Fault}
@@ -45,3 +45,23 @@ pub record LayoutLaws : Type 0 where
   pub all_within : (layout : Layout) (bytes : List ℕ) (at : ℕ) (kind : DataKind)
       → FirstFaultOfAll layout bytes at kind
       → at ≤ length bytes
+
+-- what holds of a reader of all of the bytes that reads the records of a layout
+pub record RecordLaws {X : Type 0} (layout : Layout) (fits : X → Type 0) (spell : X → List ℕ)
+    (read : List ℕ → Result X Fault) : Type 0 where
+  -- what is read is spelled so
+  pub spelled : (bytes : List ℕ) (x : X) → AreBytes bytes → read bytes ≡ Ok x → fits x × (bytes ≡ spell x)
+  -- what is spelled is read again
+  pub again : (x : X) → fits x → read (spell x) ≡ Ok x
+  -- two spellings of two values are different, and none begins another
+  pub one_form : (a b : X) (x y : List ℕ) → fits a → fits b → spell a ++ x ≡ spell b ++ y → (a ≡ b) × (x ≡ y)
+  -- what is told of other bytes is their first fault
+  pub fault : (bytes : List ℕ) (f : Fault) → AreBytes bytes
+      → (read bytes ≡ Err f) ↔ FirstFaultOfAll layout bytes f.at f.kind
+  -- bytes have at most one
+  pub one_fault : (bytes : List ℕ) (f g : Fault) → AreBytes bytes
+      → FirstFaultOfAll layout bytes f.at f.kind
+      → FirstFaultOfAll layout bytes g.at g.kind
+      → f ≡ g
+  -- it stands at one of the bytes, or at their end
+  pub within : (bytes : List ℕ) (at : ℕ) (kind : DataKind) → FirstFaultOfAll layout bytes at kind → at ≤ length bytes
