@@ -65,8 +65,8 @@ impl Machine {
     ) -> Result<Done, StepFault>
         requires small { self.old.left + held_cost self.old.stack < 2 ^ 63 }
         requires time { TimeFits ctx.now }
-        ensures { LeadsBy self.old (rule ctx.now (C.good_of sigs.now) (seen i.now) size self.old.stack.items self.old.stack.alt) result
-            self.new }
+        ensures { LeadsBy self.old (rule ctx.now (C.good_of sigs.now) (seen i.now) size self.old.stack.items
+            self.old.stack.alt) result self.new }
     {
         if i.code == CHECKPREDICATE {
             return self.open();
@@ -89,8 +89,8 @@ impl Machine {
         requires other { i.now.code ≢ 0xc0 }
         requires small { self.old.left + held_cost self.old.stack < 2 ^ 63 }
         requires time { TimeFits ctx.now }
-        ensures { Follows self.old (rule ctx.now (C.good_of sigs.now) (seen i.now) size self.old.stack.items self.old.stack.alt) result
-            self.new }
+        ensures { Follows self.old (rule ctx.now (C.good_of sigs.now) (seen i.now) size self.old.stack.items
+            self.old.stack.alt) result self.new }
     {
         match i.code {
             ..=SIXTEEN => self.push_line(i),
