@@ -11,6 +11,7 @@ use Rattle.outside.specs.World.{World, Io}
 use Rattle.chain_top.specs.Asking.{asked_end, Asked}
 use Rattle.chain_top.specs.Line.{refused_size}
 use Rattle.chain_top.specs.Plan.{End, Done, Refused, done, Does}
+use Rattle.chain_top.specs.Refused.{RefusesBy}
 use Rattle.chain_top.specs.Steps.{Begun}
 use Rattle.chain_top.specs.declared.stop.Stop.{Stop}
 use Rattle.chain_top.specs.declared.stop.Stop.TheVariants as stops
@@ -67,14 +68,10 @@ module _ (name : List ℕ) (most place : ℕ) (a b : Io) (tells : TellsBytes a.w
         gives = tt;
       })
 
-  pub asked-memory : (v : Vec ℕ Global) (r : Result (Vec ℕ Global) Stop) → IsErrAnd r (λ y. y ≡ stops.NoMemory) → Does (done (Read name most ∷ [])) a b (Ok v) → Asked name most place a b r
-  asked-memory v (Ok x) is d = absurd is
-  asked-memory v (Err y) is d = subst (λ (z : Stop). Asked name most place a b (Err z)) (sym is) (asked_memory v d)
-
   -- it gave the front of a file
   module _ (v : Vec ℕ Global) (d : Does (done (Read name most ∷ [])) a b (Ok v)) (are : AreBytes v.items) (short : length v.items ≤ most + 1) (gives : ReadGives a.world.contents name most v.items) where
-    pub asked-long : (line : String Global) → most < length v.items → string_bytes line ≡ refused_size place → Asked name most place a b (Err (stops.Refused line))
-    asked-long line past text =
+    asked_long : (line : String Global) → most < length v.items → string_bytes line ≡ refused_size place → Asked name most place a b (Err (stops.Refused line))
+    asked_long line past text =
         let (whole, fit, agrees, is) = gave a.world name most v.items tells are short gives in
         let longer : most < length whole = omega (arith, past, ap length is, length-take (most + 1) whole) in
         let test : nat_le (length whole) most ≡ false = grind (arith, nat_tests) in
@@ -86,6 +83,12 @@ module _ (name : List ℕ) (most place : ℕ) (a b : Io) (tells : TellsBytes a.w
           does = record { begun = d.begun; front = d.front; did = d.did; ends = (end, d.ends.1); place = d.place };
           gives = tt;
         }
+
+    pub asked-long : (e : Stop) → most < length v.items → RefusesBy (refused_size place) e → Asked name most place a b (Err e)
+    asked-long (stops.Refused line) past text = asked_long line past text
+    asked-long stops.ReadFault past text = absurd text
+    asked-long stops.WriteFault past text = absurd text
+    asked-long stops.NoMemory past text = asked_memory v d
 
     pub asked-found : length v.items ≤ most → Asked name most place a b (Ok v)
     asked-found fits =

@@ -11,6 +11,7 @@ use Rattle.outside.specs.World.{World, Io}
 use Rattle.chain_top.specs.Asking.{asks, missing, too_long, found, checks, refused, goes_on, HasPlan, OnePlan, PlanFor, PlansFor, OnePlanFor, IsModel, IsCheck, asked_end, Asked, Checked}
 use Rattle.chain_top.specs.Line.{refused_size}
 use Rattle.chain_top.specs.Plan.{End, Done, Refused, Missing, Plan, done, refuse, behind, Given, later, GivenBy, Does, Follows}
+use Rattle.chain_top.specs.Refused.{RefusesBy}
 use Rattle.chain_top.specs.Steps.{reads_of}
 use Rattle.chain_top.specs.declared.stop.Stop.{Stop}
 use Rattle.chain_top.specs.declared.stop.Stop.TheVariants as stops
@@ -162,6 +163,24 @@ module _ {V : Type 0} (is : Result V (List ℕ) → Type 0) (next : V → Given 
   checked-stopped view a stops.ReadFault plans tells bad = absurd bad
   checked-stopped view a stops.WriteFault plans tells bad = absurd bad
   checked-stopped view a stops.NoMemory plans tells bad = follows-none (checks is next) a plans tells
+
+-- a check that refuses by a line
+pub checked-refused : {T V : Type 0} (view : T → V) (is : Result V (List ℕ) → Type 0) (line : List ℕ) (e : Stop) → RefusesBy line e → is (Err line) → Checked view is (Err e)
+checked-refused view is line (stops.Refused text) same bad = subst (λ (l : List ℕ). is (Err l)) (sym same) bad
+checked-refused view is line stops.ReadFault same bad = absurd same
+checked-refused view is line stops.WriteFault same bad = absurd same
+checked-refused view is line stops.NoMemory same bad = tt
+
+-- what an earlier check refused, as a `?` passes it on
+pub checked-passed : {T U V W : Type 0} (view : T → V) (is : Result V (List ℕ) → Type 0) (seen : U → W) (was : Result W (List ℕ) → Type 0) (e : Stop) (r : Result T Stop) → IsErrAnd r (λ y. y ≡ e) → ((line : List ℕ) → was (Err line) → is (Err line)) → Checked seen was (Err e) → Checked view is r
+checked-passed view is seen was e (Ok x) passed each bad = absurd passed
+checked-passed {T = T} view is seen was e (Err y) passed each bad = subst (λ (z : Stop). Checked {T = T} view is (Err z)) (sym passed) (by_stop e bad)
+  where
+    by_stop : (z : Stop) → Checked seen was (Err z) → Checked {T = T} view is (Err z)
+    by_stop (stops.Refused text) bad = each (string_bytes text) bad
+    by_stop stops.ReadFault bad = absurd bad
+    by_stop stops.WriteFault bad = absurd bad
+    by_stop stops.NoMemory bad = tt
 
 -- ---- one plan
 

@@ -16,8 +16,8 @@ onto-none (Ok rest) = refl
 onto-none (Err place) = refl
 
 -- one word more
-pub one_read : (items : List (List ℕ)) (place : ℕ) (word : Word) (words : List Word) (bytes : List ℕ) → Some bytes ≡ hex_of word → onto items (hex_words place (word ∷ words)) ≡ onto (items ++ bytes ∷ []) (hex_words (place + 1) words)
-one_read items place word words bytes is = ap (λ o. onto items (on_hex place o (hex_words (suc place) words))) (sym is) ∙ onto-with_front items bytes (hex_words (suc place) words) ∙ ap (λ p. onto (items ++ bytes ∷ []) (hex_words p words)) (omega arith)
+pub one_read : (items : List (List ℕ)) (place : ℕ) (word : Word) (words : List Word) (bytes : List ℕ) → hex_of word ≡ Some bytes → onto items (hex_words place (word ∷ words)) ≡ onto (items ++ bytes ∷ []) (hex_words (place + 1) words)
+one_read items place word words bytes is = ap (λ o. onto items (on_hex place o (hex_words (suc place) words))) is ∙ onto-with_front items bytes (hex_words (suc place) words) ∙ ap (λ p. onto (items ++ bytes ∷ []) (hex_words p words)) (omega arith)
 
-pub one_misfit : (items : List (List ℕ)) (place : ℕ) (word : Word) (words : List Word) → None ≡ hex_of word → onto items (hex_words place (word ∷ words)) ≡ Err place
-one_misfit items place word words is = ap (λ o. onto items (on_hex place o (hex_words (suc place) words))) (sym is)
+pub one_misfit : (items : List (List ℕ)) (place : ℕ) (word : Word) (words : List Word) → hex_of word ≡ None → onto items (hex_words place (word ∷ words)) ≡ Err place
+one_misfit items place word words is = ap (λ o. onto items (on_hex place o (hex_words (suc place) words))) is

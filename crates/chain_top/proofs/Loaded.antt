@@ -10,7 +10,11 @@ use Rattle.wire.specs.Files.{FileFault}
 use Rattle.data_model.specs.Files.{BlocksReadAs}
 use Rattle.chain_top.specs.Files.{AreFramed, file_spelling}
 use Rattle.chain_top.specs.Loaded.{of_frames, Loads, NotStarted, NotGrown}
-use Rattle.chain_top.specs.Loading.{LoadsAs, empty, no_frames, no_start, no_next}
+use Rattle.chain_top.specs.Asking.{Checked}
+use Rattle.chain_top.specs.Loading.{LoadsAs, empty, no_frames, no_start, no_next, LedgerOf}
+use Rattle.chain_top.specs.Refused.{RefusesLoad}
+use Rattle.chain_top.specs.declared.stop.Stop.{Stop}
+use Rattle.chain_top.proofs.Asking.{checked-refused}
 use Rattle.wire.specs.declared.files.FramesFault.{FramesFault}
 use Rattle.wire.specs.declared.files.FramesFault.TheVariants as frames
 use Rattle.chain_top.specs.declared.load.LoadFault.{LoadFault}
@@ -55,3 +59,10 @@ module _ (hash : Hash) (check : Check) (bytes : List ℕ) where
 
   pub loads-not-grown : (blocks : List Block) (e : LoadFault) (r : Result Held LoadFault) → IsErrAnd r (λ y. y ≡ e) → BlocksReadAs bytes (Ok blocks) → NotGrown hash check blocks e → Loads hash check bytes r
   loads-not-grown blocks e r is reads why = loads_passed e r is (not_grown blocks e reads why)
+
+  -- the line of its fault
+  pub ledger-refused : (place : ℕ) (fault : LoadFault) (e : Stop) → Loads hash check bytes (Err fault) → RefusesLoad place fault e → Checked {T = Held} (λ ledger. ledger.blocks) (LedgerOf hash check place bytes) (Err e)
+  ledger-refused place (faults.Frame index at what) e loads told = checked-refused {T = Held} (λ ledger. ledger.blocks) (LedgerOf hash check place bytes) _ e told (_, loads, refl)
+  ledger-refused place (faults.Start why) e loads told = checked-refused {T = Held} (λ ledger. ledger.blocks) (LedgerOf hash check place bytes) _ e told (_, loads, refl)
+  ledger-refused place (faults.Block index why) e loads told = checked-refused {T = Held} (λ ledger. ledger.blocks) (LedgerOf hash check place bytes) _ e told (_, loads, refl)
+  ledger-refused place faults.NoMemory e loads told = subst (λ (z : Stop). Checked {T = Held} (λ ledger. ledger.blocks) (LedgerOf hash check place bytes) (Err z)) (sym told) tt

@@ -8,29 +8,30 @@ use Rattle.vm_run.specs.declared.verdict.Verdict.{Verdict}
 use Rattle.chain_top.specs.Asking.{IsCheck}
 use Rattle.chain_top.specs.Known.{Known}
 use Rattle.chain_top.specs.Line.{refused_hex, verdict_line}
-use Rattle.chain_top.specs.Reply.{VmLine, misfit, ran}
+use Rattle.chain_top.specs.Reading.{WordsOf}
+use Rattle.chain_top.specs.Reply.{HexOf, VmLine, misfit, ran}
 use Rattle.chain_top.specs.Word.{Word, hex_of, hex_words, on_hex, with_front}
 
 module _ (check : Check) (limit : ℕ) (program : Word) (args : List Word) where
-  pub no_program : (line : List ℕ) → None ≡ hex_of program → line ≡ refused_hex 2 → VmLine check limit program args (Err line)
-  no_program line none is =
-      subst (λ (l : List ℕ). VmLine check limit program args (Err l)) (sym is) (misfit (ap (λ o. on_hex 2 o (hex_words 3 args)) (sym none)))
+  pub no_program : (line : List ℕ) → HexOf 2 program (Err line) → VmLine check limit program args (Err line)
+  no_program line (none, is) =
+      subst (λ (l : List ℕ). VmLine check limit program args (Err l)) (sym is) (misfit (ap (λ o. on_hex 2 o (hex_words 3 args)) none))
 
-  pub no_argument : (line : List ℕ) (code : Item) (place : ℕ) → Some code ≡ hex_of program → hex_words 3 args ≡ Err place → line ≡ refused_hex place → VmLine check limit program args (Err line)
-  no_argument line code place some err is =
-      subst (λ (l : List ℕ). VmLine check limit program args (Err l)) (sym is) (misfit (ap (λ o. on_hex 2 o (hex_words 3 args)) (sym some) ∙ ap (with_front code) err))
+  pub no_argument : (code : Item) → hex_of program ≡ Some code → (line : List ℕ) → WordsOf 3 args (Err line) → VmLine check limit program args (Err line)
+  no_argument code some line (place, err, is) =
+      subst (λ (l : List ℕ). VmLine check limit program args (Err l)) (sym is) (misfit (ap (λ o. on_hex 2 o (hex_words 3 args)) some ∙ ap (with_front code) err))
 
-  pub was_run : (line : List ℕ) (code : Item) (items : List Item) (verdict : Verdict) → Some code ≡ hex_of program → hex_words 3 args ≡ Ok items → HasVerdict Nothing check code items limit verdict → line ≡ verdict_line verdict → VmLine check limit program args (Ok line)
+  pub was_run : (line : List ℕ) (code : Item) (items : List Item) (verdict : Verdict) → hex_of program ≡ Some code → hex_words 3 args ≡ Ok items → HasVerdict Nothing check code items limit verdict → line ≡ verdict_line verdict → VmLine check limit program args (Ok line)
   was_run line code items verdict some ok has is =
-      subst (λ (l : List ℕ). VmLine check limit program args (Ok l)) (sym is) (ran code items (ap (λ o. on_hex 2 o (hex_words 3 args)) (sym some) ∙ ap (with_front code) ok) has)
+      subst (λ (l : List ℕ). VmLine check limit program args (Ok l)) (sym is) (ran code items (ap (λ o. on_hex 2 o (hex_words 3 args)) some ∙ ap (with_front code) ok) has)
 
 module _ (laws : Known) (check : Check) (limit : ℕ) (program : Word) (args : List Word) where
   some_line : (r : Result (List ℕ) (List ℕ)) × VmLine check limit program args r
   some_line = by_words (hex_of program) refl (hex_words 3 args) refl
     where
-      by_words : (code : Option Item) → code ≡ hex_of program → (items : Result (List Item) ℕ) → hex_words 3 args ≡ items → (r : Result (List ℕ) (List ℕ)) × VmLine check limit program args r
-      by_words None none items is = (Err (refused_hex 2), no_program check limit program args _ none refl)
-      by_words (Some code) some (Err place) err = (Err (refused_hex place), no_argument check limit program args _ code place some err refl)
+      by_words : (code : Option Item) → hex_of program ≡ code → (items : Result (List Item) ℕ) → hex_words 3 args ≡ items → (r : Result (List ℕ) (List ℕ)) × VmLine check limit program args r
+      by_words None none items is = (Err (refused_hex 2), no_program check limit program args _ (none, refl))
+      by_words (Some code) some (Err place) err = (Err (refused_hex place), no_argument check limit program args code some _ (place, err, refl))
       by_words (Some code) some (Ok items) ok =
           (let says = laws.verdicts.some Nothing check code items limit in (Ok (verdict_line says.0), was_run check limit program args _ code items says.0 some ok says.1 refl))
 

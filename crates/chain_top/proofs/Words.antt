@@ -1,5 +1,5 @@
 -- Decimal words, and what the parse of one gives.
-use Rattle.std.proofs.Common.{◌≡◌, ℕ, ◌<◌, ◌≤◌, ◌^◌, Bool, true, false, cond, List, [], ◌∷◌, length, Result, Ok, Err, Option, Some, None, nat_le, ap, refl, arith, rules}
+use Rattle.std.proofs.Common.{◌≡◌, ℕ, ◌<◌, ◌≤◌, ◌^◌, Bool, true, false, cond, List, [], ◌∷◌, length, Result, Ok, Err, Option, Some, None, nat_le, ap, refl, ◌∙◌, arith, rules}
 use Rattle.std.proofs.lemmas.Str.Parse.{IsNumeralModel, numerals_by_value, parse_digits}
 use Rattle.std.proofs.lemmas.Bool.Decides.{nat_tests}
 use Rattle.std.proofs.lemmas.Grind.{common_steps}
@@ -56,3 +56,24 @@ hex_short word bytes is =
     let tests = by_test (nat_le (length word) 131072) (result_ok (decode_of word)) bytes is in
     let short : length word ≤ 131072 = grind (arith, nat_tests, tests.0) in
     decoded_short word bytes (decode_of word) refl tests.1 short
+
+-- a word that is too long says none
+pub hex_long : (word : List ℕ) → 131072 < length word → hex_of word ≡ None
+unfolding hex_of
+hex_long word past = grind (arith, nat_tests)
+
+-- the bytes of a word that is decoded
+pub hex_decoded : (word bytes : List ℕ) → length word ≤ 131072 → decode_of word ≡ Ok bytes → hex_of word ≡ Some bytes
+unfolding hex_of
+hex_decoded word bytes short is =
+    let test : nat_le (length word) 131072 ≡ true = grind (arith, nat_tests) in
+    ap (λ (t : Bool). cond t (result_ok (decode_of word)) None) test ∙ ap result_ok is
+
+-- a word that is no hex
+pub hex_none : (word : List ℕ) (e : FromHexError) → decode_of word ≡ Err e → hex_of word ≡ None
+unfolding hex_of
+hex_none word e is = by_length (nat_le (length word) 131072)
+  where
+    by_length : (t : Bool) → cond t (result_ok (decode_of word)) None ≡ None
+    by_length true = ap result_ok is
+    by_length false = refl

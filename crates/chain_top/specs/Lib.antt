@@ -12,8 +12,10 @@ pub mod Loaded
 pub mod Loading
 pub mod Offered
 pub mod Offers
+pub mod Piece
 pub mod Plan
 pub mod Reading
+pub mod Refused
 pub mod Reply
 pub mod Seen
 pub mod Steps

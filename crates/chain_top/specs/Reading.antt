@@ -1,16 +1,9 @@
--- What the readers of words answer.
-use Rattle.std.specs.Prelude.{◌≡◌, ℕ, List, Option, Result, Ok, Err}
-use Rattle.std.specs.declared.alloc.AllocError.{AllocError}
-use Rattle.chain_top.specs.declared.word.HexFault.{HexFault}
-use Rattle.chain_top.specs.declared.word.HexFault.TheVariants.{Misfit, NoMemory}
-use Rattle.chain_top.specs.Word.{Word, hex_of, hex_words}
+-- What the reader of hex words answers.
+use Rattle.std.specs.Prelude.{◌≡◌, ℕ, List, Result, Ok, Err}
+use Rattle.chain_top.specs.Line.{refused_hex}
+use Rattle.chain_top.specs.Word.{Word, hex_words}
 
-abbrev pub ReadsHex : Word → Result (Option (List ℕ)) AllocError → Type 0
-ReadsHex word (Ok bytes) = bytes ≡ hex_of word
-ReadsHex word (Err e) = Unit {0}
-
--- words from this place on
-abbrev pub ReadsWords : ℕ → List Word → Result (List (List ℕ)) HexFault → Type 0
-ReadsWords place words (Ok items) = hex_words place words ≡ Ok items
-ReadsWords place words (Err (Misfit at)) = hex_words place words ≡ Err at
-ReadsWords place words (Err NoMemory) = Unit {0}
+-- the bytes of words, the first of them at this place, or the refusal of the first that is no hex word
+abbrev pub WordsOf : ℕ → List Word → Result (List (List ℕ)) (List ℕ) → Type 0
+WordsOf place words (Ok items) = hex_words place words ≡ Ok items
+WordsOf place words (Err line) = (at : ℕ) × (hex_words place words ≡ Err at) × (line ≡ refused_hex at)

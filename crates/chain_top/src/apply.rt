@@ -8,7 +8,7 @@ ghost use Rattle.std.specs.Vec.Iter.{into_iter_items};
 ghost use Rattle.chain_top.specs.Asking.{Checked};
 ghost use Rattle.data_model.specs.Files.{IsFramed, block_frame};
 ghost use Rattle.chain_top.specs.Files.{AreFramed};
-ghost use Rattle.chain_top.specs.Line.{accepted_line};
+ghost use Rattle.chain_top.specs.Line.{accepted_line, refused_block};
 ghost use Rattle.chain_top.specs.Loading.{most_bytes, LedgerOf, BlocksOf};
 ghost use Rattle.chain_top.specs.Offered.{OfferDone, OffersDone};
 ghost use Rattle.chain_top.specs.Plan.{done, Does, Follows};
@@ -18,12 +18,12 @@ use crate::ask::{ask, fit_together};
 use crate::calls::{append, say};
 use crate::known::known;
 use crate::line::accepted_line;
-use crate::load::{LoadFault, load};
-use crate::refused::{refusal_words, refused_block, refused_file, refused_ledger, start_words};
+use crate::load::load;
+use crate::refused::{refused_block, refused_file, refused_load};
 use crate::stop::Stop;
 use data_model::{Block, Blocks, FramesFault, frame};
 use keyed::{IdHash, SigCheck};
-use ledger_core::{Ledger, OfferFault};
+use ledger_core::{Accepted, BlockRefusal, Ledger, OfferFault};
 use outside::Outside;
 use std::alloc::Global;
 use std::vec::IntoIter;
@@ -42,13 +42,13 @@ pub fn apply<O: Outside, H: IdHash, C: SigCheck>(
 {
     known();
     let held = ask(alloc, out, ledger, 1)?;
-    let chain = load_ledger(alloc, hash, sigs, held.as_slice(), 1)?;
+    let mut chain = load_ledger(alloc, hash, sigs, held.as_slice(), 1)?;
     offer_file(
         alloc,
         ledger,
         offers,
         held.as_slice(),
-        chain,
+        &mut chain,
         out,
         hash,
         sigs,
@@ -71,17 +71,7 @@ fn load_ledger<H: IdHash, C: SigCheck>(
 {
     match load(alloc, hash, sigs, bytes) {
         Ok(ledger) => Ok(ledger),
-        Err(LoadFault::Frame { index, at, kind }) => {
-            Err(Stop::Refused(refused_file(alloc, place, index, at, kind)?))
-        }
-        Err(LoadFault::Start(why)) => {
-            Err(Stop::Refused(refused_ledger(alloc, 0, start_words(why))?))
-        }
-        Err(LoadFault::Block { index, refusal }) => {
-            let words = refusal_words(alloc, &refusal)?;
-            Err(Stop::Refused(refused_ledger(alloc, index, words.as_str())?))
-        }
-        Err(LoadFault::NoMemory) => Err(Stop::NoMemory),
+        Err(fault) => Err(refused_load(alloc, place, &fault)),
     }
 }
 
@@ -94,7 +84,7 @@ fn read_blocks(alloc: Global, bytes: &[u8], place: u64) -> Result<Blocks, Stop>
     match data_model::read_blocks(alloc, bytes) {
         Ok(blocks) => Ok(blocks),
         Err(FramesFault::At { index, at, kind }) => {
-            Err(Stop::Refused(refused_file(alloc, place, index, at, kind)?))
+            Err(refused_file(alloc, place, index, at, kind))
         }
         Err(FramesFault::NoMemory) => Err(Stop::NoMemory),
     }
@@ -106,16 +96,16 @@ fn offer_file<O: Outside, H: IdHash, C: SigCheck>(
     ledger: &str,
     offers: &str,
     held: &[u8],
-    chain: Ledger,
+    chain: &mut Ledger,
     out: &mut O,
     hash: &H,
     sigs: &C,
 ) -> Result<(), Stop>
     requires held { length held.now ≤ most_bytes }
-    requires stands { StandsFor (H.hash_of hash.now) (C.good_of sigs.now) chain }
-    requires few { length chain.blocks ≤ length held.now }
+    requires stands { StandsFor (H.hash_of hash.now) (C.good_of sigs.now) chain.old }
+    requires few { length chain.old.blocks ≤ length held.now }
     ensures { Follows
-        (offer_file_model (H.hash_of hash.now) (C.good_of sigs.now) ledger.now offers.now held.now chain.blocks)
+        (offer_file_model (H.hash_of hash.now) (C.good_of sigs.now) ledger.now offers.now held.now chain.old.blocks)
         (O.io out.old) (O.io out.new) result }
 {
     known();
@@ -137,21 +127,21 @@ fn offer_file<O: Outside, H: IdHash, C: SigCheck>(
 fn offer_all<O: Outside, H: IdHash, C: SigCheck>(
     alloc: Global,
     name: &str,
-    mut ledger: Ledger,
+    ledger: &mut Ledger,
     mut offers: IntoIter<Block>,
     out: &mut O,
     hash: &H,
     sigs: &C,
 ) -> Result<(), Stop>
-    requires stands { StandsFor (H.hash_of hash.now) (C.good_of sigs.now) ledger }
+    requires stands { StandsFor (H.hash_of hash.now) (C.good_of sigs.now) ledger.old }
     requires framed { AreFramed (into_iter_items offers) }
-    requires few { length ledger.blocks + length (into_iter_items offers) < 2 ^ 40 }
-    ensures { OffersDone (H.hash_of hash.now) (C.good_of sigs.now) name.now ledger.blocks (into_iter_items offers)
+    requires few { length ledger.old.blocks + length (into_iter_items offers) < 2 ^ 40 }
+    ensures { OffersDone (H.hash_of hash.now) (C.good_of sigs.now) name.now ledger.old.blocks (into_iter_items offers)
         (O.io out.old) (O.io out.new) result }
 {
     known();
     while let Some(block) = offers.next() {
-        offer_one(alloc, name, &mut ledger, block, out, hash, sigs)?;
+        offer_one(alloc, name, ledger, block, out, hash, sigs)?;
     }
     Ok(())
 }
@@ -177,21 +167,33 @@ fn offer_one<O: Outside, H: IdHash, C: SigCheck>(
     known();
     let frame = frame(alloc, &block)?;
     match ledger.offer(alloc, hash, sigs, block) {
-        Ok(added) => add(
-            name,
-            frame.as_slice(),
-            accepted_line(alloc, added.height, &added.id)?.as_bytes(),
-            out,
-        ),
-        Err(OfferFault::Refused(refusal)) => say(out, refused_block(alloc, &refusal)?.as_bytes()),
+        Ok(added) => accept(alloc, name, frame.as_slice(), &added, out),
+        Err(OfferFault::Refused(refusal)) => refuse(alloc, &refusal, out),
         Err(OfferFault::NoMemory) => Err(Stop::NoMemory),
     }
 }
 
-// Appends the frame of a block, and then prints its line.
-fn add<O: Outside>(name: &str, frame: &[u8], line: &[u8], out: &mut O) -> Result<(), Stop>
-    ensures { Does (done (Write Append name.now frame.now ∷ Print line.now ∷ [])) (O.io out.old) (O.io out.new) result }
+// Appends the frame of a block that was added, and then prints its line.
+fn accept<O: Outside>(
+    alloc: Global,
+    name: &str,
+    frame: &[u8],
+    added: &Accepted,
+    out: &mut O,
+) -> Result<(), Stop>
+    ensures { Does
+        (done (Write Append name.now frame.now ∷ Print (accepted_line added.now.height added.now.id) ∷ []))
+        (O.io out.old) (O.io out.new) result }
 {
+    let line = accepted_line(alloc, added.height, &added.id)?;
     append(out, name, frame)?;
-    say(out, line)
+    say(out, line.as_bytes())
+}
+
+// Prints the line of a block that was refused.
+fn refuse<O: Outside>(alloc: Global, refusal: &BlockRefusal, out: &mut O) -> Result<(), Stop>
+    ensures { Does (done (Print (refused_block refusal.now) ∷ [])) (O.io out.old) (O.io out.new) result }
+{
+    let line = refused_block(alloc, refusal)?;
+    say(out, line.as_bytes())
 }

@@ -21,7 +21,7 @@ pub fn ask<O: Outside>(alloc: Global, out: &mut O, name: &str, place: u64) -> Re
     let bytes = read(alloc, out, name, MOST)?;
     are_bytes(bytes.as_slice());
     if bytes.len() as u64 > MOST {
-        return Err(Stop::Refused(refused_size(alloc, place)?));
+        return Err(refused_size(alloc, place));
     }
     Ok(bytes)
 }
@@ -36,7 +36,7 @@ pub fn fit_together(alloc: Global, place: u64, first: &[u8], second: &[u8]) -> R
     ensures { Checked (λ u. u) (FitsWith place first.now second.now) result }
 {
     if first.len() as u64 + second.len() as u64 > MOST {
-        return Err(Stop::Refused(refused_size(alloc, place)?));
+        return Err(refused_size(alloc, place));
     }
     Ok(())
 }

@@ -1,18 +1,17 @@
 // The command `init`.
-ghost use Rattle.std.specs.Prelude.{◌≡◌, ◌<◌, ◌≤◌, ◌^◌, [], ◌∷◌, length, IfOk};
+ghost use Rattle.std.specs.Prelude.{◌≡◌, ◌<◌, ◌^◌, [], ◌∷◌};
 ghost use Rattle.outside.specs.Files.{Replace};
 ghost use Rattle.outside.specs.Steps.{Write, Print};
 ghost use Rattle.entry_ids.specs.Entry.{header_id};
-ghost use Rattle.chain_top.specs.Asking.{Checked};
 ghost use Rattle.data_model.specs.Files.{block_frame};
+ghost use Rattle.data_model.specs.Spelling.{IsBlock};
 ghost use Rattle.chain_top.specs.Initial.{initial_block};
 ghost use Rattle.chain_top.specs.Line.{block_line};
 ghost use Rattle.chain_top.specs.Plan.{done, Does, Follows};
-ghost use Rattle.chain_top.specs.Reply.{HexOf, init_steps, init_model};
+ghost use Rattle.chain_top.specs.Reply.{init_steps, init_model};
 
 use crate::calls::{replace, say};
 use crate::line::block_line;
-use crate::refused::refused_hex;
 use crate::stop::Stop;
 use crate::word::hex_word;
 use data_model::{Block, Header, Txs, frame};
@@ -35,38 +34,24 @@ pub fn init<O: Outside, H: IdHash>(
     ensures { Follows (init_model (H.hash_of hash.now) ledger.now time program.now)
         (O.io out.old) (O.io out.new) result }
 {
-    let code = program_of(alloc, program)?;
-    start(alloc, ledger, time, code, out, hash)
+    let code = hex_word(alloc, program, 3)?;
+    let block = initial_block(alloc, hash, time, code);
+    start(alloc, ledger, &block, out, hash)
 }
 
-// The next program.
-fn program_of(alloc: Global, word: &str) -> Result<Bytes, Stop>
-    ensures code { Checked (λ code. code) (HexOf 3 word.now) result }
-    ensures short { IfOk result (λ code. length code ≤ 65536) }
-{
-    match hex_word(alloc, word)? {
-        Some(code) => Ok(code),
-        None => Err(Stop::Refused(refused_hex(alloc, 3)?)),
-    }
-}
-
-// Sets the ledger, and then prints the line.
+// Sets the ledger to the frame of this block, and then prints its line.
 fn start<O: Outside, H: IdHash>(
     alloc: Global,
     ledger: &str,
-    time: u64,
-    code: Bytes,
+    block: &Block,
     out: &mut O,
     hash: &H,
 ) -> Result<(), Stop>
-    requires time { time < 2 ^ 63 }
-    requires code { length code ≤ 65536 }
-    ensures { Does (done (init_steps (H.hash_of hash.now) ledger.now (initial_block (H.hash_of hash.now) time code)))
-        (O.io out.old) (O.io out.new) result }
+    requires { IsBlock block.now }
+    ensures { Does (done (init_steps (H.hash_of hash.now) ledger.now block.now)) (O.io out.old) (O.io out.new) result }
 {
-    let block = initial_block(alloc, hash, time, code);
     let line = block_line(alloc, 1, &block_id(alloc, hash, &block.header)?)?;
-    let frame = frame(alloc, &block)?;
+    let frame = frame(alloc, block)?;
     set(ledger, frame.as_slice(), line.as_bytes(), out)
 }
 

@@ -14,7 +14,7 @@ use std::alloc::Global;
 use std::vec::IntoIter;
 
 /// Why bytes are not the file of a ledger.
-#[derive(Clone, Copy, Debug, PartialEq, Eq)]
+#[derive(Clone, Copy)]
 pub enum LoadFault {
     /// They do not read as frames, or there is none: the first fault is in this frame, counted from 0, at this byte.
     Frame { index: u64, at: u64, kind: DataKind },

@@ -1,103 +1,162 @@
-// Printed refusals of files and of blocks.
-ghost use Rattle.std.specs.Prelude.{◌≡◌, IfOk, string_bytes};
-ghost use Rattle.chain_top.specs.Line.{refused_hex, refused_size, refused_file, refused_ledger, refused_words};
-ghost use Rattle.chain_top.specs.Line.{refused_block, start_words, refusal_words, number_words, id_words, id_words_of};
+// Refusals of words, of files and of blocks.
+ghost use Rattle.std.specs.Prelude.{◌≡◌, ℕ, List, IfOk, string_bytes};
+ghost use Rattle.chain_top.specs.Line.{refused_hex, refused_size, refused_file, refused_ledger, refused_block};
+ghost use Rattle.chain_top.specs.Line.{start_words, refusal_words};
+ghost use Rattle.chain_top.specs.Piece.{joined, text_of_words};
+ghost use Rattle.chain_top.specs.Refused.{RefusesBy, RefusesLoad};
 
-use crate::line::hex_text;
+use crate::line::Piece::{self, Hex, Kind, Number, Why, Word};
+use crate::line::line;
+use crate::load::LoadFault;
+use crate::stop::Stop;
 use data_model::DataKind;
 use ledger_core::{BlockRefusal, StartFault};
 use std::alloc::{AllocError, Global};
-use wire::Id;
 
-pub fn refused_hex(alloc: Global, place: u64) -> Result<String, AllocError>
-    ensures { IfOk result (λ line. string_bytes line ≡ refused_hex place) }
+// The refusal by the line of these pieces.
+fn refusal(alloc: Global, pieces: &[Piece]) -> Stop
+    ensures { RefusesBy (joined pieces.now) result }
 {
-    format!(in alloc; "refused hex {place}\n")
+    match line(alloc, pieces) {
+        Ok(line) => Stop::Refused(line),
+        Err(AllocError) => Stop::NoMemory,
+    }
 }
 
-pub fn refused_size(alloc: Global, place: u64) -> Result<String, AllocError>
-    ensures { IfOk result (λ line. string_bytes line ≡ refused_size place) }
+pub fn refused_hex(alloc: Global, place: u64) -> Stop
+    ensures { RefusesBy (refused_hex place) result }
 {
-    format!(in alloc; "refused size {place}\n")
+    refusal(alloc, &[Word("refused hex "), Number(place), Word("\n")])
 }
 
-pub fn refused_file(
-    alloc: Global,
-    place: u64,
-    index: u64,
-    at: u64,
-    kind: DataKind,
-) -> Result<String, AllocError>
-    ensures { IfOk result (λ line. string_bytes line ≡ refused_file place index at kind) }
+pub fn refused_size(alloc: Global, place: u64) -> Stop
+    ensures { RefusesBy (refused_size place) result }
 {
-    format!(in alloc; "refused file {place} {index} {at} {kind}\n")
+    refusal(alloc, &[Word("refused size "), Number(place), Word("\n")])
 }
 
-pub fn refused_ledger(alloc: Global, index: u64, words: &str) -> Result<String, AllocError>
-    ensures { IfOk result (λ line. string_bytes line ≡ refused_ledger index words.now) }
+pub fn refused_file(alloc: Global, place: u64, index: u64, at: u64, kind: DataKind) -> Stop
+    ensures { RefusesBy (refused_file place index at kind) result }
 {
-    format!(in alloc; "refused ledger {index} {words}\n")
+    refusal(
+        alloc,
+        &[
+            Word("refused file "),
+            Number(place),
+            Word(" "),
+            Number(index),
+            Word(" "),
+            Number(at),
+            Word(" "),
+            Kind(kind),
+            Word("\n"),
+        ],
+    )
+}
+
+/// The refusal of the ledger that the word at this place names.
+pub fn refused_load(alloc: Global, place: u64, fault: &LoadFault) -> Stop
+    ensures { RefusesLoad place fault.now result }
+{
+    match fault {
+        LoadFault::Frame { index, at, kind } => refused_file(alloc, place, *index, *at, *kind),
+        LoadFault::Start(why) => refused_ledger(alloc, 0, start_words(*why)),
+        LoadFault::Block { index, refusal } => refused_ledger(
+            alloc,
+            *index,
+            refusal_words(refusal),
+        ),
+        LoadFault::NoMemory => Stop::NoMemory,
+    }
+}
+
+fn refused_ledger(alloc: Global, index: u64, words: Words<'_>) -> Stop
+    ensures { RefusesBy (refused_ledger index (text_of_words words.entry)) result }
+{
+    refusal(
+        alloc,
+        &[
+            Word("refused ledger "),
+            Number(index),
+            Word(" "),
+            Word(words.name),
+            words.first,
+            Word(words.space),
+            words.second,
+            Word("\n"),
+        ],
+    )
 }
 
 pub fn refused_block(alloc: Global, refusal: &BlockRefusal) -> Result<String, AllocError>
     ensures { IfOk result (λ line. string_bytes line ≡ refused_block refusal.now) }
 {
-    let words = refusal_words(alloc, refusal)?;
-    refused_words(alloc, words.as_str())
+    let words = refusal_words(refusal);
+    line(
+        alloc,
+        &[
+            Word("refused "),
+            Word(words.name),
+            words.first,
+            Word(words.space),
+            words.second,
+            Word("\n"),
+        ],
+    )
 }
 
-fn refused_words(alloc: Global, words: &str) -> Result<String, AllocError>
-    ensures { IfOk result (λ line. string_bytes line ≡ refused_words words.now) }
-{
-    format!(in alloc; "refused {words}\n")
+// The words of a refusal: its name and at most two values.
+#[derive(Clone, Copy)]
+struct Words<'a> {
+    name: &'static str,
+    first: Piece<'a>,
+    space: &'static str,
+    second: Piece<'a>,
 }
 
-/// Why a block starts no chain.
-pub fn start_words(fault: StartFault) -> &'static str
-    ensures { result.now ≡ start_words fault }
+// Why a block starts no chain.
+fn start_words(fault: StartFault) -> Words<'static>
+    ensures { text_of_words result ≡ start_words fault }
 {
-    match fault {
+    let name = match fault {
         StartFault::HeightNotOne => "I1",
         StartFault::PreviousNotZero => "I2",
         StartFault::VersionNotOne => "I3",
         StartFault::NotEmpty => "I4",
         StartFault::RootsNotEmpty => "I5",
         StartFault::NoMemory => "",
+    };
+    Words {
+        name,
+        first: Word(""),
+        space: "",
+        second: Word(""),
     }
 }
 
-/// Why a block does not extend a chain, with the values.
-pub fn refusal_words(alloc: Global, refusal: &BlockRefusal) -> Result<String, AllocError>
-    ensures { IfOk result (λ words. string_bytes words ≡ refusal_words refusal.now) }
+// Why a block does not extend a chain, with the values.
+fn refusal_words(refusal: &BlockRefusal) -> Words<'_>
+    ensures { text_of_words result ≡ refusal_words refusal.now }
 {
-    match refusal {
-        BlockRefusal::B1 { tip, given } => id_words(alloc, "B1", tip, given),
-        BlockRefusal::B2 { wanted, given } => number_words(alloc, "B2", *wanted, *given),
-        BlockRefusal::B3 { tip_time, given } => number_words(alloc, "B3", *tip_time, *given),
-        BlockRefusal::B4 { given } => format!(in alloc; "B4 {given}"),
-        BlockRefusal::B5 { tip_version, given } => number_words(alloc, "B5", *tip_version, *given),
-        BlockRefusal::B6 { computed, given } => id_words(alloc, "B6", computed, given),
-        BlockRefusal::B7 { kind, at } => format!(in alloc; "B7 {kind} {at}"),
-        BlockRefusal::B9 { computed, given } => id_words(alloc, "B9", computed, given),
+    let (name, first, space, second) = match refusal {
+        BlockRefusal::B1 { tip, given } => ("B1 ", Hex(tip), " ", Hex(given)),
+        BlockRefusal::B2 { wanted, given } => ("B2 ", Number(*wanted), " ", Number(*given)),
+        BlockRefusal::B3 { tip_time, given } => ("B3 ", Number(*tip_time), " ", Number(*given)),
+        BlockRefusal::B4 { given } => ("B4 ", Number(*given), "", Word("")),
+        BlockRefusal::B5 { tip_version, given } => (
+            "B5 ",
+            Number(*tip_version),
+            " ",
+            Number(*given),
+        ),
+        BlockRefusal::B6 { computed, given } => ("B6 ", Hex(computed), " ", Hex(given)),
+        BlockRefusal::B7 { kind, at } => ("B7 ", Why(*kind), " ", Number(*at)),
+        BlockRefusal::B9 { computed, given } => ("B9 ", Hex(computed), " ", Hex(given)),
+    };
+    Words {
+        name,
+        first,
+        space,
+        second,
     }
-}
-
-fn number_words(alloc: Global, name: &str, first: u64, second: u64) -> Result<String, AllocError>
-    ensures { IfOk result (λ words. string_bytes words ≡ number_words name.now first second) }
-{
-    format!(in alloc; "{name} {first} {second}")
-}
-
-fn id_words(alloc: Global, name: &str, first: &Id, second: &Id) -> Result<String, AllocError>
-    ensures { IfOk result (λ words. string_bytes words ≡ id_words name.now first.now second.now) }
-{
-    let first = hex_text(alloc, first)?;
-    let second = hex_text(alloc, second)?;
-    id_words_of(alloc, name, first.as_str(), second.as_str())
-}
-
-fn id_words_of(alloc: Global, name: &str, first: &str, second: &str) -> Result<String, AllocError>
-    ensures { IfOk result (λ words. string_bytes words ≡ id_words_of name.now first.now second.now) }
-{
-    format!(in alloc; "{name} {first} {second}")
 }

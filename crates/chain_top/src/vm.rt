@@ -7,14 +7,12 @@ ghost use Rattle.chain_top.specs.Reply.{VmLine, vm_model};
 use crate::calls::say;
 use crate::known::known;
 use crate::line::verdict_line;
-use crate::refused::refused_hex;
 use crate::stop::Stop;
-use crate::word::{HexFault, hex_word, hex_words};
+use crate::word::{hex_word, hex_words};
 use keyed::SigCheck;
 use outside::Outside;
 use std::alloc::Global;
 use vm_run::{Context, verify};
-use wire::Args;
 
 /// Runs a program with no context on its arguments, and tells the verdict.
 pub fn vm<O: Outside, C: SigCheck>(
@@ -48,22 +46,15 @@ fn vm_line<C: SigCheck>(
     ensures { Checked string_bytes
         (VmLine (C.good_of sigs.now) limit program.now (map string_bytes args.now)) result }
 {
-    match hex_word(alloc, program)? {
-        None => Err(Stop::Refused(refused_hex(alloc, 2)?)),
-        Some(program) => match hex_words(alloc, args, 3) {
-            Ok(args) => {
-                let verdict = verify(
-                    alloc,
-                    &Context::Nothing,
-                    sigs,
-                    program.as_slice(),
-                    &args,
-                    limit,
-                )?;
-                Ok(verdict_line(alloc, &verdict)?)
-            }
-            Err(HexFault::Misfit(place)) => Err(Stop::Refused(refused_hex(alloc, place)?)),
-            Err(HexFault::NoMemory) => Err(Stop::NoMemory),
-        },
-    }
+    let program = hex_word(alloc, program, 2)?;
+    let args = hex_words(alloc, args, 3)?;
+    let verdict = verify(
+        alloc,
+        &Context::Nothing,
+        sigs,
+        program.as_slice(),
+        &args,
+        limit,
+    )?;
+    Ok(verdict_line(alloc, &verdict)?)
 }

@@ -1,28 +1,20 @@
-use Rattle.chain_top.proofs.Offering.{offer-none, offer-memory, offer-accepted, offer-refused}
-use Rattle.std.proofs.Common.{ap, ◌∙◌}
+use Rattle.std.proofs.Common.{refl, ap, ◌∙◌}
 use Rattle.chain_top.specs.Line.{accepted_line}
+use Rattle.chain_top.proofs.Offering.{offer-none, offer-memory, offer-accepted, offer-refused}
 use Rattle.chain_top.proofs.apply.offer_one.Goals as goal
 
 pub returns-in_err-frame-clause-done : goal.returns-in_err-frame-clause-done
 returns-in_err-frame-clause-done g c = offer-none c.known.ensures _ _ _ _ _ _ _ _ c.requires.stands.chain c.from_residual.ensures.1
 
-pub returns-in_err-accepted_line-in-Ok-clause-done : goal.returns-in_err-accepted_line-in-Ok-clause-done
-returns-in_err-accepted_line-in-Ok-clause-done g c =
-    offer-none c.known.ensures _ _ _ _ _ _ _ _ c.requires.stands.chain c.from_residual-in_err-accepted_line-in-Ok.ensures.1
-
 pub returns-in-Ok-clause-done : goal.returns-in-Ok-clause-done
 returns-in-Ok-clause-done g c =
     let answer = c.in-Ok.ensures.answer in
-    let told = c.as_bytes.ensures.value ∙ c.in_ok-accepted_line-in-Ok.ensures ∙ ap (λ h. accepted_line h c.in-Ok.added.id) answer.0 ∙ ap (λ i. accepted_line c.args.block.header.height i) answer.1 in
-    offer-accepted c.known.ensures _ _ _ _ c.args.block _ _ _ _ _ _ c.in-Ok.ensures.valid c.in-Ok.ensures.added (c.as_slice.ensures.value ∙ c.in_ok-frame.ensures) told c.add.ensures
-
-pub returns-in_err-refused_block-in-Err-Refused-clause-done : goal.returns-in_err-refused_block-in-Err-Refused-clause-done
-returns-in_err-refused_block-in-Err-Refused-clause-done g c =
-    offer-none c.known.ensures _ _ _ _ _ _ _ _ c.requires.stands.chain c.from_residual-in_err-refused_block-in-Err-Refused.ensures.1
+    let told = ap (λ h. accepted_line h c.in-Ok.added.id) answer.0 ∙ ap (λ i. accepted_line c.args.block.header.height i) answer.1 in
+    offer-accepted c.known.ensures _ _ _ _ c.args.block _ _ _ _ _ _ c.in-Ok.ensures.valid c.in-Ok.ensures.added (c.as_slice.ensures.value ∙ c.in_ok-frame.ensures) told c.accept.ensures
 
 pub returns-in-Err-Refused-clause-done : goal.returns-in-Err-Refused-clause-done
 returns-in-Err-Refused-clause-done g c =
-    offer-refused c.known.ensures _ _ _ _ c.args.block _ _ _ _ c.in-Err-Refused.refusal _ (rw c.in-Err-Refused.field-0-is at c.in-Err-Refused.ensures.refused) (ap (λ l. l.blocks) c.in-Err-Refused.ensures.unchanged) (c.as_bytes-in-Err-Refused.ensures.value ∙ c.in_ok-refused_block-in-Err-Refused.ensures) c.say.ensures
+    offer-refused c.known.ensures _ _ _ _ c.args.block _ _ _ _ c.in-Err-Refused.refusal _ (rw c.in-Err-Refused.field-0-is at c.in-Err-Refused.ensures.refused) (ap (λ l. l.blocks) c.in-Err-Refused.ensures.unchanged) refl c.refuse.ensures
 
 pub returns-clause-done : goal.returns-clause-done
 returns-clause-done g c = offer-memory c.known.ensures _ _ _ _ _ _ _ c.requires.stands.chain

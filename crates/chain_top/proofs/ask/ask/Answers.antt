@@ -1,20 +1,16 @@
 use Rattle.std.proofs.Common.{subst, arith}
 use Rattle.outside.specs.Bytes.{AreBytes}
 use Rattle.chain_top.specs.Loading.{most_bytes}
-use Rattle.chain_top.proofs.Asked.{asked-cut, asked-memory, asked-long, asked-found}
+use Rattle.chain_top.proofs.Asked.{asked-cut, asked-long, asked-found}
 use Rattle.chain_top.proofs.ask.ask.Goals as goal
 
 pub returns-in_err-bytes-clause-asked : goal.returns-in_err-bytes-clause-asked
 returns-in_err-bytes-clause-asked g c =
     asked-cut c.args.name.now most_bytes c.args.place _ _ (g.met.O.Outside.contents_are_bytes c.args.out.now) _ _ c.from_residual.ensures.1 c.in_err-bytes.ensures.does
 
-pub returns-in_err-refused_size-clause-asked : goal.returns-in_err-refused_size-clause-asked
-returns-in_err-refused_size-clause-asked g c =
-    asked-memory c.args.name.now most_bytes c.args.place _ _ (g.met.O.Outside.contents_are_bytes c.args.out.now) c.in_ok-bytes.bytes _ c.from_residual-in_err-refused_size.ensures.1 c.in_ok-bytes.ensures.does
-
 pub returns-then-len-gt-MOST-clause-asked : goal.returns-then-len-gt-MOST-clause-asked
 returns-then-len-gt-MOST-clause-asked g c =
-    asked-long c.args.name.now most_bytes c.args.place _ _ (g.met.O.Outside.contents_are_bytes c.args.out.now) c.in_ok-bytes.bytes c.in_ok-bytes.ensures.does (subst AreBytes c.as_slice.ensures.value c.are_bytes.ensures) c.in_ok-bytes.ensures.short c.in_ok-bytes.ensures.bytes _ (omega (arith, c.if-len-gt-MOST.true, c.len.ensures)) c.in_ok-refused_size.ensures
+    asked-long c.args.name.now most_bytes c.args.place _ _ (g.met.O.Outside.contents_are_bytes c.args.out.now) c.in_ok-bytes.bytes c.in_ok-bytes.ensures.does (subst AreBytes c.as_slice.ensures.value c.are_bytes.ensures) c.in_ok-bytes.ensures.short c.in_ok-bytes.ensures.bytes _ (omega (arith, c.if-len-gt-MOST.true, c.len.ensures)) c.refused_size.ensures
 
 pub returns-clause-asked : goal.returns-clause-asked
 returns-clause-asked g c =

@@ -1,0 +1,19 @@
+-- What a function answers that refuses.
+use Rattle.std.specs.Prelude.{◌≡◌, ℕ, List, string_bytes}
+use Rattle.chain_top.specs.Loading.{load_line}
+use Rattle.chain_top.specs.declared.load.LoadFault.{LoadFault}
+use Rattle.chain_top.specs.declared.load.LoadFault.TheVariants as faults
+use Rattle.chain_top.specs.declared.stop.Stop.{Stop}
+use Rattle.chain_top.specs.declared.stop.Stop.TheVariants as stops
+
+-- it refuses by this line; want of memory is free
+abbrev pub RefusesBy : List ℕ → Stop → Type 0
+RefusesBy line (stops.Refused text) = string_bytes text ≡ line
+RefusesBy line stops.ReadFault = ⊥
+RefusesBy line stops.WriteFault = ⊥
+RefusesBy line stops.NoMemory = Unit {0}
+
+-- it refuses by the line of this fault of the ledger that the word at this place names, or wants memory as the fault does
+abbrev pub RefusesLoad : ℕ → LoadFault → Stop → Type 0
+RefusesLoad place faults.NoMemory stop = stop ≡ stops.NoMemory
+RefusesLoad place fault stop = RefusesBy (load_line place fault) stop
