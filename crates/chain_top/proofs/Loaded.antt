@@ -5,11 +5,14 @@ use Rattle.data_model.specs.declared.block.Block.{Block}
 use Rattle.vm_run.specs.Row.{Check}
 use Rattle.ledger_core.specs.Held.{Held}
 use Rattle.ledger_core.specs.Refusal.{Hash}
+use Rattle.ledger_core.specs.Start.{RefusesStart}
+use Rattle.ledger_core.specs.declared.refusal.StartFault.{StartFault}
+use Rattle.ledger_core.specs.declared.refusal.StartFault.TheVariants as starts
 use Rattle.wire.specs.declared.fault.DataKind.TheVariants.{Count}
 use Rattle.wire.specs.Files.{FileFault}
 use Rattle.data_model.specs.Files.{BlocksReadAs}
 use Rattle.chain_top.specs.Files.{AreFramed, file_spelling}
-use Rattle.chain_top.specs.Loaded.{of_frames, Loads, NotStarted, NotGrown}
+use Rattle.chain_top.specs.Loaded.{of_frames, of_start, Loads, NotGrown}
 use Rattle.chain_top.specs.Asking.{Checked}
 use Rattle.chain_top.specs.Loading.{LoadsAs, empty, no_frames, no_start, no_next, LedgerOf}
 use Rattle.chain_top.specs.Refused.{RefusesLoad}
@@ -40,14 +43,16 @@ module _ (hash : Hash) (check : Check) (bytes : List ℕ) where
   loads-empty reads = empty reads.1
 
   -- the first block starts no chain
-  not_started : (initial : Block) (later : List Block) (e : LoadFault) → BlocksReadAs bytes (Ok (initial ∷ later)) → NotStarted hash initial e → Loads hash check bytes (Err e)
-  not_started initial later (faults.Start why) reads is = no_start initial later reads is
-  not_started initial later (faults.Frame index at what) reads is = absurd is
-  not_started initial later (faults.Block index why) reads is = absurd is
-  not_started initial later faults.NoMemory reads is = tt
+  not_started : (initial : Block) (later : List Block) (fault : StartFault) → BlocksReadAs bytes (Ok (initial ∷ later)) → RefusesStart hash initial fault → Loads hash check bytes (Err (of_start fault))
+  not_started initial later starts.HeightNotOne reads is = no_start initial later reads is
+  not_started initial later starts.PreviousNotZero reads is = no_start initial later reads is
+  not_started initial later starts.VersionNotOne reads is = no_start initial later reads is
+  not_started initial later starts.NotEmpty reads is = no_start initial later reads is
+  not_started initial later starts.RootsNotEmpty reads is = no_start initial later reads is
+  not_started initial later starts.NoMemory reads is = tt
 
-  pub loads-not-started : (initial : Block) (later : List Block) (e : LoadFault) (r : Result Held LoadFault) → IsErrAnd r (λ y. y ≡ e) → BlocksReadAs bytes (Ok (initial ∷ later)) → NotStarted hash initial e → Loads hash check bytes r
-  loads-not-started initial later e r is reads why = loads_passed e r is (not_started initial later e reads why)
+  pub loads-not-started : (initial : Block) (later : List Block) (fault : StartFault) (r : Result Held LoadFault) → IsErrAnd r (λ y. y ≡ of_start fault) → BlocksReadAs bytes (Ok (initial ∷ later)) → RefusesStart hash initial fault → Loads hash check bytes r
+  loads-not-started initial later fault r is reads why = loads_passed (of_start fault) r is (not_started initial later fault reads why)
 
   -- a later one does not extend those before it
   not_grown : (blocks : List Block) (e : LoadFault) → BlocksReadAs bytes (Ok blocks) → NotGrown hash check blocks e → Loads hash check bytes (Err e)

@@ -5,7 +5,8 @@ use Rattle.vm_run.specs.Row.{Check}
 use Rattle.ledger_core.specs.Chain.{Chain}
 use Rattle.ledger_core.specs.Held.{Held}
 use Rattle.ledger_core.specs.Refusal.{Hash, Refusal}
-use Rattle.ledger_core.specs.Start.{StartRefusal}
+use Rattle.ledger_core.specs.declared.refusal.StartFault.{StartFault}
+use Rattle.ledger_core.specs.declared.refusal.StartFault.TheVariants as starts
 use Rattle.chain_top.specs.Loading.{LoadsAs}
 use Rattle.wire.specs.declared.files.FramesFault.{FramesFault}
 use Rattle.wire.specs.declared.files.FramesFault.TheVariants as frames
@@ -16,17 +17,15 @@ abbrev pub of_frames : FramesFault → LoadFault
 of_frames (frames.At index at kind) = faults.Frame index at kind
 of_frames frames.NoMemory = faults.NoMemory
 
+abbrev pub of_start : StartFault → LoadFault
+of_start starts.NoMemory = faults.NoMemory
+of_start why = faults.Start why
+
 -- the blocks of the ledger, or the fault of its file; want of memory is free
 abbrev pub Loads : Hash → Check → List ℕ → Result Held LoadFault → Type 0
 Loads hash check bytes (Ok ledger) = LoadsAs hash check bytes (Ok ledger.blocks)
 Loads hash check bytes (Err faults.NoMemory) = Unit {0}
 Loads hash check bytes (Err fault) = LoadsAs hash check bytes (Err fault)
-
--- a block starts no chain
-abbrev pub NotStarted : Hash → Block → LoadFault → Type 0
-NotStarted hash initial (faults.Start why) = StartRefusal hash initial (Some why)
-NotStarted hash initial faults.NoMemory = Unit {0}
-NotStarted hash initial fault = ⊥
 
 -- one of these blocks does not extend those before it, which are a chain
 abbrev pub NotGrown : Hash → Check → List Block → LoadFault → Type 0

@@ -38,10 +38,11 @@ pub fn command_of(words: &[String]) -> Option<Command<'_>>
     ensures reads { seen_command result ≡ command_of (map string_bytes words.now) }
     ensures limit { HasLimit result }
 {
-    match words {
-        [name, rest @ ..] if name.as_str() == "vm" => vm_words(rest),
-        [name, rest @ ..] if name.as_str() == "init" => init_words(rest),
-        [name, rest @ ..] if name.as_str() == "apply" => apply_words(rest),
+    let (name, rest) = words.split_first()?;
+    match name.as_str() {
+        "vm" => vm_words(rest),
+        "init" => init_words(rest),
+        "apply" => apply_words(rest),
         _ => None,
     }
 }

@@ -2,10 +2,9 @@
 ghost use Rattle.std.specs.Prelude.{◌≡◌, ◌+◌, ◌<◌, ◌≤◌, ◌^◌, ◌++◌, [], ◌∷◌, length, IfOk, IfErr, OnOk};
 ghost use Rattle.ledger_core.specs.Chain.{StandsFor};
 ghost use Rattle.std.specs.Vec.Iter.{into_iter_items};
-ghost use Rattle.vm_run.specs.Row.{Check};
 ghost use Rattle.data_model.specs.Files.{IsFramed};
 ghost use Rattle.chain_top.specs.Files.{AreFramed};
-ghost use Rattle.chain_top.specs.Loaded.{Loads, NotStarted, NotGrown};
+ghost use Rattle.chain_top.specs.Loaded.{Loads, NotGrown};
 
 use data_model::{Block, DataKind, FramesFault, read_blocks};
 use keyed::{IdHash, SigCheck};
@@ -39,6 +38,19 @@ impl From<FramesFault> for LoadFault {
     }
 }
 
+impl From<StartFault> for LoadFault {
+    ghost use Rattle.chain_top.specs.Loaded.{of_start};
+
+    ghost from_gives = { λ fault e. e ≡ of_start fault };
+
+    fn from(fault: StartFault) -> LoadFault {
+        match fault {
+            StartFault::NoMemory => LoadFault::NoMemory,
+            why => LoadFault::Start(why),
+        }
+    }
+}
+
 /// The ledger of a file. An empty file has a fault of its count of frames.
 pub fn load<H: IdHash, C: SigCheck>(
     alloc: Global,
@@ -59,23 +71,9 @@ pub fn load<H: IdHash, C: SigCheck>(
             kind: DataKind::Count,
         });
     };
-    let mut ledger = started(alloc, hash, initial)?;
+    let mut ledger = Ledger::start(alloc, hash, initial)?;
     grow(alloc, hash, sigs, &mut ledger, blocks)?;
     Ok(ledger)
-}
-
-// The ledger of an initial block.
-fn started<H: IdHash>(alloc: Global, hash: &H, initial: Block) -> Result<Ledger, LoadFault>
-    requires { IsFramed initial }
-    ensures stands { IfOk result (λ ledger. (check : Check) → StandsFor (H.hash_of hash.now) check ledger) }
-    ensures alone { IfOk result (λ ledger. ledger.blocks ≡ initial ∷ []) }
-    ensures refused { IfErr result (NotStarted (H.hash_of hash.now) initial) }
-{
-    match Ledger::start(alloc, hash, initial) {
-        Ok(ledger) => Ok(ledger),
-        Err(StartFault::NoMemory) => Err(LoadFault::NoMemory),
-        Err(fault) => Err(LoadFault::Start(fault)),
-    }
 }
 
 // Adds the later blocks.

@@ -32,22 +32,22 @@ grow-requires-clause-stands g c = c.in_ok-ledger.ensures.stands (g.C.SigCheck.go
 pub grow-requires-clause-few : goal.grow-requires-clause-few
 grow-requires-clause-few g c =
     let same : c.in-Some.initial ∷ into_iter_items c.next.new.self ≡ c.in_ok-read_blocks.field-0 = sym c.in-Some.ensures.items ∙ c.into_iter-blocks.ensures.rest ∙ c.into_vec.ensures in
-    omega (arith, c.requires, ap length c.in_ok-ledger.ensures.alone, ap length same, few_blocks c.in_ok-read_blocks.field-0, ap length c.in_ok-read_blocks.ensures.found.1)
+    omega (arith, c.requires, ap length c.in_ok-ledger.ensures.blocks, ap length same, few_blocks c.in_ok-read_blocks.field-0, ap length c.in_ok-read_blocks.ensures.found.1)
 
 pub returns-in_err-grow-clause-loads : goal.returns-in_err-grow-clause-loads
 returns-in_err-grow-clause-loads g c =
     let same : c.in-Some.initial ∷ into_iter_items c.next.new.self ≡ c.in_ok-read_blocks.field-0 = sym c.in-Some.ensures.items ∙ c.into_iter-blocks.ensures.rest ∙ c.into_vec.ensures in
-    let all : c.in_ok-ledger.ledger.blocks ++ into_iter_items c.next.new.self ≡ c.in_ok-read_blocks.field-0 = ap (λ (bs : List Block). bs ++ into_iter_items c.next.new.self) c.in_ok-ledger.ensures.alone ∙ same in
+    let all : c.in_ok-ledger.ledger.blocks ++ into_iter_items c.next.new.self ≡ c.in_ok-read_blocks.field-0 = ap (λ (bs : List Block). bs ++ into_iter_items c.next.new.self) c.in_ok-ledger.ensures.blocks ∙ same in
     loads-not-grown _ _ _ _ _ _ c.from_residual-in_err-grow.ensures.1 (reads-as _ _ _ c.in_ok-read_blocks.ensures.found all) c.in_err-grow.ensures.refused
 
 pub returns-clause-loads : goal.returns-clause-loads
 returns-clause-loads g c =
     let same : c.in-Some.initial ∷ into_iter_items c.next.new.self ≡ c.in_ok-read_blocks.field-0 = sym c.in-Some.ensures.items ∙ c.into_iter-blocks.ensures.rest ∙ c.into_vec.ensures in
-    let all : c.grow.new.ledger.blocks ≡ c.in_ok-read_blocks.field-0 = c.in_ok-grow.ensures.all ∙ ap (λ (bs : List Block). bs ++ into_iter_items c.next.new.self) c.in_ok-ledger.ensures.alone ∙ same in
+    let all : c.grow.new.ledger.blocks ≡ c.in_ok-read_blocks.field-0 = c.in_ok-grow.ensures.all ∙ ap (λ (bs : List Block). bs ++ into_iter_items c.next.new.self) c.in_ok-ledger.ensures.blocks ∙ same in
     chain (reads-as _ _ _ c.in_ok-read_blocks.ensures.found all) c.in_ok-grow.ensures.stands.chain
 
 pub returns-clause-few : goal.returns-clause-few
 returns-clause-few g c =
     let same : c.in-Some.initial ∷ into_iter_items c.next.new.self ≡ c.in_ok-read_blocks.field-0 = sym c.in-Some.ensures.items ∙ c.into_iter-blocks.ensures.rest ∙ c.into_vec.ensures in
-    let all : c.grow.new.ledger.blocks ≡ c.in_ok-read_blocks.field-0 = c.in_ok-grow.ensures.all ∙ ap (λ (bs : List Block). bs ++ into_iter_items c.next.new.self) c.in_ok-ledger.ensures.alone ∙ same in
+    let all : c.grow.new.ledger.blocks ≡ c.in_ok-read_blocks.field-0 = c.in_ok-grow.ensures.all ∙ ap (λ (bs : List Block). bs ++ into_iter_items c.next.new.self) c.in_ok-ledger.ensures.blocks ∙ same in
     omega (arith, ap length all, few_blocks c.in_ok-read_blocks.field-0, ap length c.in_ok-read_blocks.ensures.found.1)
