@@ -1,5 +1,5 @@
 -- Offers one after the other, each done up to some step.
-use Rattle.std.proofs.Common.{◌≡◌, ℕ, ◌<◌, List, [], ◌∷◌, ◌++◌, length, None, Result, Ok, Err, refl, sym, subst, arith}
+use Rattle.std.proofs.Common.{◌≡◌, ℕ, ◌+◌, ◌<◌, ◌≤◌, List, [], ◌∷◌, ◌++◌, length, None, Result, Ok, Err, refl, sym, ap, subst, arith}
 use Rattle.std.specs.Prelude.{Some, OnOk, IsErrAnd}
 use Rattle.std.proofs.lemmas.List.{length-append}
 use Rattle.data_model.specs.declared.block.Block.{Block}
@@ -33,6 +33,10 @@ module _ (laws : Known) (hash : Hash) (check : Check) (ledger : Word) where
   owes_some : (blocks : List Block) (block : Block) (after : List Block) (steps : List Step) → 0 < length blocks → OfferOwes hash check ledger blocks block after steps → 0 < length after
   owes_some blocks block after steps some (accepted valid) = omega (arith, length-append blocks (block ∷ []))
   owes_some blocks block after steps some (refused why) = some
+
+  owes_few : (blocks : List Block) (block : Block) (after : List Block) (steps : List Step) → OfferOwes hash check ledger blocks block after steps → length after ≤ length blocks + 1
+  owes_few blocks block after steps (accepted valid) = omega (arith, length-append blocks (block ∷ []))
+  owes_few blocks block after steps (refused why) = omega arith
 
   -- ---- one
 
@@ -93,6 +97,10 @@ module _ (laws : Known) (hash : Hash) (check : Check) (ledger : Word) where
   offers-stopped blocks block later offers a b e (Ok x) front is one = absurd is
   offers-stopped {U = U} blocks block later offers a b e (Err y) front is one =
       subst (λ (z : Stop). OffersDone {T = U} hash check ledger blocks (block ∷ offers) a b (Err z)) (sym is) (offers_stopped blocks block later offers a b e front one)
+
+  -- one is at most one block more
+  pub offered-few : {T : Type 0} (blocks : List Block) (block : Block) (later : List Block) (a b : Io) (x : T) → OfferDone hash check ledger blocks block later a b (Ok x) → length later ≤ length blocks + 1
+  offered-few blocks block later a b x d = omega (arith, ap length d.kept, owes_few blocks block d.left d.steps d.owes)
 
   -- as a model
   pub offers-follow : {T : Type 0} (blocks offers : List Block) (a b : Io) (r : Result T Stop) → OffersDone hash check ledger blocks offers a b r → Follows (offers_model hash check ledger blocks offers) a b r

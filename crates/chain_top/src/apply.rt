@@ -160,7 +160,6 @@ fn offer_one<O: Outside, H: IdHash, C: SigCheck>(
     requires framed { IsFramed block }
     requires few { length ledger.old.blocks < 2 ^ 40 }
     ensures stands { StandsFor (H.hash_of hash.now) (C.good_of sigs.now) ledger.new }
-    ensures few { length ledger.new.blocks ≤ length ledger.old.blocks + 1 }
     ensures done { OfferDone (H.hash_of hash.now) (C.good_of sigs.now) name.now ledger.old.blocks block
         ledger.new.blocks (O.io out.old) (O.io out.new) result }
 {

@@ -49,11 +49,11 @@ fn add(alloc: Global, line: &mut String, piece: Piece) -> Result<(), AllocError>
     }
 }
 
-pub fn verdict_line(alloc: Global, verdict: &Verdict) -> Result<String, AllocError>
-    ensures { IfOk result (λ line. string_bytes line ≡ verdict_line verdict.now) }
+pub fn verdict_line(alloc: Global, verdict: Verdict) -> Result<String, AllocError>
+    ensures { IfOk result (λ line. string_bytes line ≡ verdict_line verdict) }
 {
     use Piece::{Number, Why, Word};
-    match *verdict {
+    match verdict {
         Verdict::Succeeded { left } => {
             line(alloc, &[Word("succeeded left "), Number(left), Word("\n")])
         }

@@ -1,8 +1,8 @@
 // Refusals of words, of files and of blocks.
-ghost use Rattle.std.specs.Prelude.{◌≡◌, ℕ, List, IfOk, string_bytes};
+ghost use Rattle.std.specs.Prelude.{◌≡◌, ◌++◌, ◌∷◌, IfOk, string_bytes};
 ghost use Rattle.chain_top.specs.Line.{refused_hex, refused_size, refused_file, refused_ledger, refused_block};
 ghost use Rattle.chain_top.specs.Line.{start_words, refusal_words};
-ghost use Rattle.chain_top.specs.Piece.{joined, text_of_words};
+ghost use Rattle.chain_top.specs.Piece.{joined, text_of, text_of_words};
 ghost use Rattle.chain_top.specs.Refused.{RefusesBy, RefusesLoad};
 
 use crate::line::Piece::{self, Hex, Kind, Number, Why, Word};
@@ -108,9 +108,9 @@ pub fn refused_block(alloc: Global, refusal: &BlockRefusal) -> Result<String, Al
 // The words of a refusal: its name and at most two values.
 #[derive(Clone, Copy)]
 struct Words<'a> {
-    name: &'static str,
+    name: &'a str,
     first: Piece<'a>,
-    space: &'static str,
+    space: &'a str,
     second: Piece<'a>,
 }
 
@@ -126,37 +126,43 @@ fn start_words(fault: StartFault) -> Words<'static>
         StartFault::RootsNotEmpty => "I5",
         StartFault::NoMemory => "",
     };
-    Words {
-        name,
-        first: Word(""),
-        space: "",
-        second: Word(""),
-    }
+    one(name, Word(""))
 }
 
 // Why a block does not extend a chain, with the values.
 fn refusal_words(refusal: &BlockRefusal) -> Words<'_>
     ensures { text_of_words result ≡ refusal_words refusal.now }
 {
-    let (name, first, space, second) = match refusal {
-        BlockRefusal::B1 { tip, given } => ("B1 ", Hex(tip), " ", Hex(given)),
-        BlockRefusal::B2 { wanted, given } => ("B2 ", Number(*wanted), " ", Number(*given)),
-        BlockRefusal::B3 { tip_time, given } => ("B3 ", Number(*tip_time), " ", Number(*given)),
-        BlockRefusal::B4 { given } => ("B4 ", Number(*given), "", Word("")),
-        BlockRefusal::B5 { tip_version, given } => (
-            "B5 ",
-            Number(*tip_version),
-            " ",
-            Number(*given),
-        ),
-        BlockRefusal::B6 { computed, given } => ("B6 ", Hex(computed), " ", Hex(given)),
-        BlockRefusal::B7 { kind, at } => ("B7 ", Why(*kind), " ", Number(*at)),
-        BlockRefusal::B9 { computed, given } => ("B9 ", Hex(computed), " ", Hex(given)),
-    };
+    match refusal {
+        BlockRefusal::B1 { tip, given } => two("B1 ", Hex(tip), Hex(given)),
+        BlockRefusal::B2 { wanted, given } => two("B2 ", Number(*wanted), Number(*given)),
+        BlockRefusal::B3 { tip_time, given } => two("B3 ", Number(*tip_time), Number(*given)),
+        BlockRefusal::B4 { given } => one("B4 ", Number(*given)),
+        BlockRefusal::B5 { tip_version, given } => two("B5 ", Number(*tip_version), Number(*given)),
+        BlockRefusal::B6 { computed, given } => two("B6 ", Hex(computed), Hex(given)),
+        BlockRefusal::B7 { kind, at } => two("B7 ", Why(*kind), Number(*at)),
+        BlockRefusal::B9 { computed, given } => two("B9 ", Hex(computed), Hex(given)),
+    }
+}
+
+fn one<'a>(name: &'a str, value: Piece<'a>) -> Words<'a>
+    ensures { text_of_words result ≡ name.now ++ text_of value.entry }
+{
+    Words {
+        name,
+        first: value,
+        space: "",
+        second: Word(""),
+    }
+}
+
+fn two<'a>(name: &'a str, first: Piece<'a>, second: Piece<'a>) -> Words<'a>
+    ensures { text_of_words result ≡ name.now ++ (text_of first.entry ++ 32 ∷ text_of second.entry) }
+{
     Words {
         name,
         first,
-        space,
+        space: " ",
         second,
     }
 }

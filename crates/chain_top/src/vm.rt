@@ -56,5 +56,5 @@ fn vm_line<C: SigCheck>(
         &args,
         limit,
     )?;
-    Ok(verdict_line(alloc, &verdict)?)
+    Ok(verdict_line(alloc, verdict)?)
 }

@@ -4,7 +4,7 @@ use Rattle.data_model.specs.declared.block.Block.{Block}
 use Rattle.chain_top.specs.Files.{AreFramed}
 use Rattle.chain_top.specs.Offered.{OffersDone}
 use Rattle.chain_top.proofs.Lines.{empty-list}
-use Rattle.chain_top.proofs.Offering.{offers-none, offers-more, offers-stopped}
+use Rattle.chain_top.proofs.Offering.{offered-few, offers-none, offers-more, offers-stopped}
 use Rattle.chain_top.proofs.apply.offer_all.Goals as goal
 
 pub loop-block-init : goal.loop-block-init
@@ -21,7 +21,7 @@ loop-block-preserved g c =
     record {
       stands = c.in_ok-offer_one.ensures.stands;
       framed = framed.1;
-      few = omega (arith, c.loop-block.invariant.few, c.in_ok-offer_one.ensures.few, ap length items);
+      few = omega (arith, c.loop-block.invariant.few, offered-few c.known.ensures hash check c.args.name.now c.loop-block.ledger.blocks block c.offer_one.new.ledger.blocks _ _ _ c.in_ok-offer_one.ensures.done, ap length items);
       onto = λ end r d.
           c.loop-block.invariant.onto end r
           (subst (λ (bs : List Block). OffersDone hash check c.args.name.now c.loop-block.ledger.blocks bs (g.O.Outside.io c.loop-block.out) end r) (sym items)

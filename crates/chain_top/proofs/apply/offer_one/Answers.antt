@@ -18,3 +18,30 @@ returns-in-Err-Refused-clause-done g c =
 
 pub returns-clause-done : goal.returns-clause-done
 returns-clause-done g c = offer-memory c.known.ensures _ _ _ _ _ _ _ c.requires.stands.chain
+
+pub frame-requires : goal.frame-requires
+frame-requires g c = c.requires.framed.0
+
+pub offer-requires-clause-stands : goal.offer-requires-clause-stands
+offer-requires-clause-stands g c = c.requires.stands
+
+pub offer-requires-clause-header : goal.offer-requires-clause-header
+offer-requires-clause-header g c = c.requires.framed.0.header
+
+pub offer-requires-clause-txs : goal.offer-requires-clause-txs
+offer-requires-clause-txs g c = c.requires.framed.0.txs
+
+pub offer-requires-clause-room : goal.offer-requires-clause-room
+offer-requires-clause-room g c = c.requires.few
+
+pub returns-in_err-frame-clause-stands : goal.returns-in_err-frame-clause-stands
+returns-in_err-frame-clause-stands g c = c.requires.stands
+
+pub returns-in-Ok-clause-stands : goal.returns-in-Ok-clause-stands
+returns-in-Ok-clause-stands g c = c.offer.ensures.stands
+
+pub returns-in-Err-Refused-clause-stands : goal.returns-in-Err-Refused-clause-stands
+returns-in-Err-Refused-clause-stands g c = c.offer.ensures.stands
+
+pub returns-clause-stands : goal.returns-clause-stands
+returns-clause-stands g c = c.offer.ensures.stands
