@@ -1,8 +1,10 @@
 -- What a function answers that refuses.
-use Rattle.std.specs.Prelude.{◌≡◌, ℕ, List, string_bytes}
+use Rattle.std.specs.Prelude.{◌≡◌, ℕ, List, ◌++◌, string_bytes}
 use Rattle.chain_top.specs.Loading.{load_line}
+use Rattle.chain_top.specs.Piece.{text_of}
 use Rattle.chain_top.specs.declared.load.LoadFault.{LoadFault}
 use Rattle.chain_top.specs.declared.load.LoadFault.TheVariants as faults
+use Rattle.chain_top.specs.declared.refused.Words.{Words}
 use Rattle.chain_top.specs.declared.stop.Stop.{Stop}
 use Rattle.chain_top.specs.declared.stop.Stop.TheVariants as stops
 
@@ -17,3 +19,7 @@ RefusesBy line stops.NoMemory = Unit {0}
 abbrev pub RefusesLoad : ℕ → LoadFault → Stop → Type 0
 RefusesLoad place faults.NoMemory stop = stop ≡ stops.NoMemory
 RefusesLoad place fault stop = RefusesBy (load_line place fault) stop
+
+-- the name of a refusal, and its values behind it
+abbrev pub words_of : Words → List ℕ
+words_of words = words.0.now ++ (text_of words.1 ++ text_of words.2)

@@ -193,6 +193,5 @@ fn accept<O: Outside>(
 fn refuse<O: Outside>(alloc: Global, refusal: &BlockRefusal, out: &mut O) -> Result<(), Stop>
     ensures { Does (done (Print (refused_block refusal.now) ∷ [])) (O.io out.old) (O.io out.new) result }
 {
-    let line = refused_block(alloc, refusal)?;
-    say(out, line.as_bytes())
+    say(out, refused_block(alloc, refusal)?.as_bytes())
 }

@@ -1,8 +1,9 @@
 // Printed lines, each with its newline.
 ghost use Rattle.std.specs.Prelude.{◌≡◌, ◌++◌, IfOk, OnOk, string_bytes};
 ghost use Rattle.chain_top.specs.Line.{verdict_line, block_line, accepted_line};
-ghost use Rattle.chain_top.specs.Piece.{text_of, joined};
+ghost use Rattle.chain_top.specs.Piece.{text_of, joined, text_of_line};
 
+use Piece::{Hex, Number, Why, Word};
 use data_model::DataKind;
 use std::alloc::{AllocError, Global};
 use vm_num::Failure;
@@ -14,9 +15,10 @@ pub const USAGE_LINE: &[u8] = b"usage\n";
 // The bytes that every line has room in: the longest, a ledger refused for two ids, has at most 169.
 const LINE_MOST: usize = 192;
 
-/// A part of a line.
+/// A word of a line, or none.
 #[derive(Clone, Copy)]
 pub enum Piece<'a> {
+    Nothing,
     Word(&'a str),
     Number(u64),
     /// In lower-case hex.
@@ -25,79 +27,60 @@ pub enum Piece<'a> {
     Why(Failure),
 }
 
-/// The line of these pieces. It is made in one allocation.
-pub fn line(alloc: Global, pieces: &[Piece]) -> Result<String, AllocError>
-    ensures { IfOk result (λ line. string_bytes line ≡ joined pieces.now) }
+/// The line of a head and the words behind it, with a space before each. It is made in one allocation.
+pub fn line(alloc: Global, head: &str, words: &[Piece]) -> Result<String, AllocError>
+    ensures { IfOk result (λ line. string_bytes line ≡ text_of_line head.now words.now) }
 {
     let mut line = String::with_capacity(alloc, LINE_MOST)?;
-    for piece in pieces {
-        add(alloc, &mut line, *piece)?;
-    }
+    line.push_str(head)?;
+    add_all(alloc, &mut line, words)?;
+    line.push_str("\n")?;
     Ok(line)
 }
 
-// Adds a piece behind the others.
-fn add(alloc: Global, line: &mut String, piece: Piece) -> Result<(), AllocError>
-    ensures { OnOk result (string_bytes line.new ≡ string_bytes line.old ++ text_of piece.entry) }
+fn add_all(alloc: Global, line: &mut String, words: &[Piece]) -> Result<(), AllocError>
+    ensures { OnOk result (string_bytes line.new ≡ string_bytes line.old ++ joined words.now) }
 {
-    match piece {
-        Piece::Word(word) => line.push_str(word),
-        Piece::Number(number) => line.write(number),
-        Piece::Hex(id) => line.push_str(hex::encode(alloc, id.as_slice())?.as_str()),
-        Piece::Kind(kind) => line.write(kind),
-        Piece::Why(failure) => line.write(failure),
+    for word in words {
+        add(alloc, line, *word)?;
+    }
+    Ok(())
+}
+
+// Adds a word behind a space.
+fn add(alloc: Global, line: &mut String, word: Piece) -> Result<(), AllocError>
+    ensures { OnOk result (string_bytes line.new ≡ string_bytes line.old ++ text_of word.entry) }
+{
+    match word {
+        Piece::Nothing => Ok(()),
+        Piece::Word(word) => write!(line, " {word}"),
+        Piece::Number(number) => write!(line, " {number}"),
+        Piece::Hex(id) => {
+            let hex = hex::encode(alloc, id.as_slice())?;
+            write!(line, " {hex}")
+        }
+        Piece::Kind(kind) => write!(line, " {kind}"),
+        Piece::Why(failure) => write!(line, " {failure}"),
     }
 }
 
 pub fn verdict_line(alloc: Global, verdict: Verdict) -> Result<String, AllocError>
     ensures { IfOk result (λ line. string_bytes line ≡ verdict_line verdict) }
 {
-    use Piece::{Number, Why, Word};
     match verdict {
-        Verdict::Succeeded { left } => {
-            line(alloc, &[Word("succeeded left "), Number(left), Word("\n")])
-        }
-        Verdict::Failed { kind, at } => line(
-            alloc,
-            &[
-                Word("failed "),
-                Why(kind),
-                Word(" at "),
-                Number(at),
-                Word("\n"),
-            ],
-        ),
+        Verdict::Succeeded { left } => line(alloc, "succeeded", &[Word("left"), Number(left)]),
+        Verdict::Failed { kind, at } => line(alloc, "failed", &[Why(kind), Word("at"), Number(at)]),
     }
 }
 
 pub fn block_line(alloc: Global, height: u64, id: &Id) -> Result<String, AllocError>
     ensures { IfOk result (λ line. string_bytes line ≡ block_line height id.now) }
 {
-    use Piece::{Hex, Number, Word};
-    line(
-        alloc,
-        &[
-            Word("block "),
-            Number(height),
-            Word(" "),
-            Hex(id),
-            Word("\n"),
-        ],
-    )
+    line(alloc, "block", &[Number(height), Hex(id)])
 }
 
 pub fn accepted_line(alloc: Global, height: u64, id: &Id) -> Result<String, AllocError>
     ensures { IfOk result (λ line. string_bytes line ≡ accepted_line height id.now) }
 {
-    use Piece::{Hex, Number, Word};
-    line(
-        alloc,
-        &[
-            Word("accepted "),
-            Number(height),
-            Word(" "),
-            Hex(id),
-            Word("\n"),
-        ],
-    )
+    line(alloc, "accepted", &[Number(height), Hex(id)])
 }

@@ -1,11 +1,11 @@
 // Refusals of words, of files and of blocks.
-ghost use Rattle.std.specs.Prelude.{◌≡◌, ◌++◌, ◌∷◌, IfOk, string_bytes};
+ghost use Rattle.std.specs.Prelude.{◌≡◌, ◌++◌, IfOk, string_bytes};
 ghost use Rattle.chain_top.specs.Line.{refused_hex, refused_size, refused_file, refused_ledger, refused_block};
 ghost use Rattle.chain_top.specs.Line.{start_words, refusal_words};
-ghost use Rattle.chain_top.specs.Piece.{joined, text_of, text_of_words};
-ghost use Rattle.chain_top.specs.Refused.{RefusesBy, RefusesLoad};
+ghost use Rattle.chain_top.specs.Piece.{text_of, text_of_line};
+ghost use Rattle.chain_top.specs.Refused.{RefusesBy, RefusesLoad, words_of};
 
-use crate::line::Piece::{self, Hex, Kind, Number, Why, Word};
+use crate::line::Piece::{self, Hex, Kind, Nothing, Number, Why, Word};
 use crate::line::line;
 use crate::load::LoadFault;
 use crate::stop::Stop;
@@ -13,11 +13,11 @@ use data_model::DataKind;
 use ledger_core::{BlockRefusal, StartFault};
 use std::alloc::{AllocError, Global};
 
-// The refusal by the line of these pieces.
-fn refusal(alloc: Global, pieces: &[Piece]) -> Stop
-    ensures { RefusesBy (joined pieces.now) result }
+// The refusal by the line of this head and these words.
+fn refusal(alloc: Global, head: &str, words: &[Piece]) -> Stop
+    ensures { RefusesBy (text_of_line head.now words.now) result }
 {
-    match line(alloc, pieces) {
+    match line(alloc, head, words) {
         Ok(line) => Stop::Refused(line),
         Err(AllocError) => Stop::NoMemory,
     }
@@ -26,13 +26,13 @@ fn refusal(alloc: Global, pieces: &[Piece]) -> Stop
 pub fn refused_hex(alloc: Global, place: u64) -> Stop
     ensures { RefusesBy (refused_hex place) result }
 {
-    refusal(alloc, &[Word("refused hex "), Number(place), Word("\n")])
+    refusal(alloc, "refused hex", &[Number(place)])
 }
 
 pub fn refused_size(alloc: Global, place: u64) -> Stop
     ensures { RefusesBy (refused_size place) result }
 {
-    refusal(alloc, &[Word("refused size "), Number(place), Word("\n")])
+    refusal(alloc, "refused size", &[Number(place)])
 }
 
 pub fn refused_file(alloc: Global, place: u64, index: u64, at: u64, kind: DataKind) -> Stop
@@ -40,17 +40,8 @@ pub fn refused_file(alloc: Global, place: u64, index: u64, at: u64, kind: DataKi
 {
     refusal(
         alloc,
-        &[
-            Word("refused file "),
-            Number(place),
-            Word(" "),
-            Number(index),
-            Word(" "),
-            Number(at),
-            Word(" "),
-            Kind(kind),
-            Word("\n"),
-        ],
+        "refused file",
+        &[Number(place), Number(index), Number(at), Kind(kind)],
     )
 }
 
@@ -71,52 +62,30 @@ pub fn refused_load(alloc: Global, place: u64, fault: &LoadFault) -> Stop
 }
 
 fn refused_ledger(alloc: Global, index: u64, words: Words<'_>) -> Stop
-    ensures { RefusesBy (refused_ledger index (text_of_words words.entry)) result }
+    ensures { RefusesBy (refused_ledger index (words_of words.entry)) result }
 {
+    let Words(name, first, second) = words;
     refusal(
         alloc,
-        &[
-            Word("refused ledger "),
-            Number(index),
-            Word(" "),
-            Word(words.name),
-            words.first,
-            Word(words.space),
-            words.second,
-            Word("\n"),
-        ],
+        "refused ledger",
+        &[Number(index), Word(name), first, second],
     )
 }
 
 pub fn refused_block(alloc: Global, refusal: &BlockRefusal) -> Result<String, AllocError>
     ensures { IfOk result (λ line. string_bytes line ≡ refused_block refusal.now) }
 {
-    let words = refusal_words(refusal);
-    line(
-        alloc,
-        &[
-            Word("refused "),
-            Word(words.name),
-            words.first,
-            Word(words.space),
-            words.second,
-            Word("\n"),
-        ],
-    )
+    let Words(name, first, second) = refusal_words(refusal);
+    line(alloc, "refused", &[Word(name), first, second])
 }
 
-// The words of a refusal: its name and at most two values.
+// The name of a refusal, and at most two values behind it.
 #[derive(Clone, Copy)]
-struct Words<'a> {
-    name: &'a str,
-    first: Piece<'a>,
-    space: &'a str,
-    second: Piece<'a>,
-}
+struct Words<'a>(&'static str, Piece<'a>, Piece<'a>);
 
 // Why a block starts no chain.
 fn start_words(fault: StartFault) -> Words<'static>
-    ensures { text_of_words result ≡ start_words fault }
+    ensures { words_of result ≡ start_words fault }
 {
     let name = match fault {
         StartFault::HeightNotOne => "I1",
@@ -126,43 +95,25 @@ fn start_words(fault: StartFault) -> Words<'static>
         StartFault::RootsNotEmpty => "I5",
         StartFault::NoMemory => "",
     };
-    one(name, Word(""))
+    Words(name, Nothing, Nothing)
 }
 
 // Why a block does not extend a chain, with the values.
 fn refusal_words(refusal: &BlockRefusal) -> Words<'_>
-    ensures { text_of_words result ≡ refusal_words refusal.now }
+    ensures { words_of result ≡ refusal_words refusal.now }
 {
     match refusal {
-        BlockRefusal::B1 { tip, given } => two("B1 ", Hex(tip), Hex(given)),
-        BlockRefusal::B2 { wanted, given } => two("B2 ", Number(*wanted), Number(*given)),
-        BlockRefusal::B3 { tip_time, given } => two("B3 ", Number(*tip_time), Number(*given)),
-        BlockRefusal::B4 { given } => one("B4 ", Number(*given)),
-        BlockRefusal::B5 { tip_version, given } => two("B5 ", Number(*tip_version), Number(*given)),
-        BlockRefusal::B6 { computed, given } => two("B6 ", Hex(computed), Hex(given)),
-        BlockRefusal::B7 { kind, at } => two("B7 ", Why(*kind), Number(*at)),
-        BlockRefusal::B9 { computed, given } => two("B9 ", Hex(computed), Hex(given)),
-    }
-}
-
-fn one<'a>(name: &'a str, value: Piece<'a>) -> Words<'a>
-    ensures { text_of_words result ≡ name.now ++ text_of value.entry }
-{
-    Words {
-        name,
-        first: value,
-        space: "",
-        second: Word(""),
-    }
-}
-
-fn two<'a>(name: &'a str, first: Piece<'a>, second: Piece<'a>) -> Words<'a>
-    ensures { text_of_words result ≡ name.now ++ (text_of first.entry ++ 32 ∷ text_of second.entry) }
-{
-    Words {
-        name,
-        first,
-        space: " ",
-        second,
+        BlockRefusal::B1 { tip, given } => Words("B1", Hex(tip), Hex(given)),
+        BlockRefusal::B2 { wanted, given } => Words("B2", Number(*wanted), Number(*given)),
+        BlockRefusal::B3 { tip_time, given } => Words("B3", Number(*tip_time), Number(*given)),
+        BlockRefusal::B4 { given } => Words("B4", Number(*given), Nothing),
+        BlockRefusal::B5 { tip_version, given } => Words(
+            "B5",
+            Number(*tip_version),
+            Number(*given),
+        ),
+        BlockRefusal::B6 { computed, given } => Words("B6", Hex(computed), Hex(given)),
+        BlockRefusal::B7 { kind, at } => Words("B7", Why(*kind), Number(*at)),
+        BlockRefusal::B9 { computed, given } => Words("B9", Hex(computed), Hex(given)),
     }
 }
