@@ -1,5 +1,6 @@
 // Printed lines, each with its newline.
 ghost use Rattle.std.specs.Prelude.{◌≡◌, ◌++◌, IfOk, OnOk, string_bytes};
+ghost use Rattle.vm_run.specs.declared.verdict.Verdict.TheVariants.{Succeeded, Failed};
 ghost use Rattle.chain_top.specs.Line.{verdict_line, block_line, accepted_line};
 ghost use Rattle.chain_top.specs.Piece.{text_of, joined, text_of_line};
 
@@ -7,7 +8,6 @@ use Piece::{Hex, Number, Why, Word};
 use data_model::DataKind;
 use std::alloc::{AllocError, Global};
 use vm_num::Failure;
-use vm_run::Verdict;
 use wire::Id;
 
 pub const USAGE_LINE: &[u8] = b"usage\n";
@@ -64,13 +64,16 @@ fn add(alloc: Global, line: &mut String, word: Piece) -> Result<(), AllocError>
     }
 }
 
-pub fn verdict_line(alloc: Global, verdict: Verdict) -> Result<String, AllocError>
-    ensures { IfOk result (λ line. string_bytes line ≡ verdict_line verdict) }
+pub fn succeeded_line(alloc: Global, left: u64) -> Result<String, AllocError>
+    ensures { IfOk result (λ line. string_bytes line ≡ verdict_line (Succeeded left)) }
 {
-    match verdict {
-        Verdict::Succeeded { left } => line(alloc, "succeeded", &[Word("left"), Number(left)]),
-        Verdict::Failed { kind, at } => line(alloc, "failed", &[Why(kind), Word("at"), Number(at)]),
-    }
+    line(alloc, "succeeded", &[Word("left"), Number(left)])
+}
+
+pub fn failed_line(alloc: Global, kind: Failure, at: u64) -> Result<String, AllocError>
+    ensures { IfOk result (λ line. string_bytes line ≡ verdict_line (Failed kind at)) }
+{
+    line(alloc, "failed", &[Why(kind), Word("at"), Number(at)])
 }
 
 pub fn block_line(alloc: Global, height: u64, id: &Id) -> Result<String, AllocError>

@@ -2,17 +2,19 @@
 ghost use Rattle.std.specs.Prelude.{◌≡◌, ◌+◌, ◌<◌, ◌≤◌, ◌^◌, length, map, string_bytes};
 ghost use Rattle.chain_top.specs.Asking.{Checked};
 ghost use Rattle.chain_top.specs.Plan.{Follows};
+ghost use Rattle.chain_top.specs.Reading.{LineOfRun};
 ghost use Rattle.chain_top.specs.Reply.{VmLine, vm_model};
 
 use crate::calls::say;
 use crate::known::known;
-use crate::line::verdict_line;
+use crate::line::{failed_line, succeeded_line};
 use crate::stop::Stop;
 use crate::word::{hex_word, hex_words};
 use keyed::SigCheck;
 use outside::Outside;
 use std::alloc::Global;
-use vm_run::{Context, verify};
+use vm_run::{Context, Verdict, verify};
+use wire::Args;
 
 /// Runs a program with no context on its arguments, and tells the verdict.
 pub fn vm<O: Outside, C: SigCheck>(
@@ -48,13 +50,22 @@ fn vm_line<C: SigCheck>(
 {
     let program = hex_word(alloc, program, 2)?;
     let args = hex_words(alloc, args, 3)?;
-    let verdict = verify(
-        alloc,
-        &Context::Nothing,
-        sigs,
-        program.as_slice(),
-        &args,
-        limit,
-    )?;
-    Ok(verdict_line(alloc, verdict)?)
+    line_of_run(alloc, limit, program.as_slice(), &args, sigs)
+}
+
+// The line of the verdict on a program and its arguments.
+fn line_of_run<C: SigCheck>(
+    alloc: Global,
+    limit: u64,
+    program: &[u8],
+    args: &Args,
+    sigs: &C,
+) -> Result<String, Stop>
+    requires { limit ≤ 100000 }
+    ensures { Checked string_bytes (LineOfRun (C.good_of sigs.now) limit program.now args.now) result }
+{
+    match verify(alloc, &Context::Nothing, sigs, program, args, limit)? {
+        Verdict::Succeeded { left } => Ok(succeeded_line(alloc, left)?),
+        Verdict::Failed { kind, at } => Ok(failed_line(alloc, kind, at)?),
+    }
 }

@@ -1,10 +1,11 @@
-use Rattle.std.proofs.Common.{ℕ, List, map}
+use Rattle.std.proofs.Common.{ℕ, List, map, subst}
 use Rattle.std.specs.Prelude.{string_bytes}
 use Rattle.std.specs.declared.alloc.Global.{Global}
-use Rattle.chain_top.specs.Reading.{WordsOf}
+use Rattle.chain_top.specs.Asking.{Checked}
+use Rattle.chain_top.specs.Reading.{WordsOf, LineOfRun}
 use Rattle.chain_top.specs.Reply.{HexOf, VmLine}
 use Rattle.chain_top.proofs.Asking.{checked-passed}
-use Rattle.chain_top.proofs.VmLines.{no_program, no_argument, was_run}
+use Rattle.chain_top.proofs.VmLines.{no_program, no_argument, run-checked}
 use Rattle.chain_top.proofs.vm.vm_line.Goals as goal
 
 pub returns-in_err-program : goal.returns-in_err-program
@@ -21,4 +22,7 @@ returns-in_err-args g c =
 
 pub returns : goal.returns
 returns g c =
-    was_run _ _ _ _ _ c.in_ok-program.program c.in_ok-args.args c.in_ok-verdict.verdict c.in_ok-program.ensures.reads c.in_ok-args.ensures (rw c.as_slice.ensures at c.in_ok-verdict.ensures.verdict) c.in_ok-verdict_line.ensures
+    let check = g.C.SigCheck.good_of c.args.sigs.now in
+    let args = map (string_bytes {Z = Global}) c.args.args.now in
+    run-checked check c.args.limit c.args.program.now args c.in_ok-program.program c.in_ok-args.args _ c.in_ok-program.ensures.reads c.in_ok-args.ensures
+    (subst (λ (code : List ℕ). Checked string_bytes (LineOfRun check c.args.limit code c.in_ok-args.args) c.line_of_run.result) c.as_slice.ensures c.line_of_run.ensures)
