@@ -16,9 +16,7 @@ use Rattle.chain_top.specs.Steps.{Begun}
 use Rattle.chain_top.specs.declared.stop.Stop.{Stop}
 use Rattle.chain_top.specs.declared.stop.Stop.TheVariants as stops
 use Rattle.chain_top.proofs.Asking.{TellsBytes}
-
-not_refused : (line : List ℕ) → Done ≡ Refused line → ⊥
-not_refused line e = cc
+use Rattle.chain_top.proofs.Fronts.{not_refused}
 
 -- what the file holds, where the files tell
 held_at : (w : World) (name : List ℕ) → TellsBytes w → (content : Content) × HoldsBytes content × IfSome w.contents (λ of. content ≡ of name)

@@ -252,7 +252,7 @@ module _ (name : List ℕ) (most place : ℕ) (next : List ℕ → Given → Pla
   asks-model = record { some = asks-some; one = asks-one; some_for = asks-some_for; one_for = asks-one_for }
 
 -- checks
-not_both : {V : Type 0} (v : V) (line : List ℕ) → ◌≡◌ {A = Result V (List ℕ)} (Ok v) (Err line) → ⊥
+pub not_both : {V : Type 0} (v : V) (line : List ℕ) → ◌≡◌ {A = Result V (List ℕ)} (Ok v) (Err line) → ⊥
 not_both v line e = cc
 
 module _ {V : Type 0} (is : Result V (List ℕ) → Type 0) (next : V → Given → Plan → Type 0) (check : IsCheck is) (models : (v : V) → is (Ok v) → IsModel (next v)) where

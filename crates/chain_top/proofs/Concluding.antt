@@ -15,6 +15,7 @@ use Rattle.chain_top.specs.Steps.{Begun, reads_of}
 use Rattle.chain_top.specs.Word.{Word}
 use Rattle.chain_top.specs.declared.stop.Stop.{Stop}
 use Rattle.chain_top.specs.declared.stop.Stop.TheVariants as stops
+use Rattle.chain_top.proofs.Fronts.{not_refused}
 
 reads-line : (steps : List Step) (line : List ℕ) → reads_of (steps ++ Print line ∷ []) ≡ reads_of steps
 reads-line [] line = refl
@@ -27,9 +28,6 @@ pub reads-ended : (steps : List Step) (end : End) → reads_of (ended steps end)
 reads-ended steps Done = refl
 reads-ended steps (Refused line) = reads-line steps line
 reads-ended steps Missing = refl
-
-not_refused : (line : List ℕ) → Done ≡ Refused line → ⊥
-not_refused line e = cc
 
 module _ (hash : Hash) (check : Check) (words : List Word) (choice : Choice) (a b c : Io) where
   -- a command did what its model says, and closed

@@ -10,16 +10,13 @@ use Rattle.chain_top.specs.Reply.{Reply, ended, reply_of}
 use Rattle.chain_top.specs.Steps.{Begun, IsFront}
 use Rattle.chain_top.specs.declared.stop.Stop.{Stop}
 use Rattle.chain_top.specs.declared.stop.Stop.TheVariants as stops
-use Rattle.chain_top.proofs.Fronts.{front-before, does-then}
+use Rattle.chain_top.proofs.Fronts.{front-before, does-then, not_refused}
 
 -- a front of the plan is one of the reply
 front-ended : (steps : List Step) (end : End) (begun : Begun) → IsFront steps begun → IsFront (ended steps end).steps begun
 front-ended steps Done begun front = front
 front-ended steps (Refused line) begun front = front-before steps (Print line ∷ []) begun front
 front-ended steps Missing begun front = front
-
-not_refused : (line : List ℕ) → Done ≡ Refused line → ⊥
-not_refused line e = cc
 
 module _ (plan : Plan) (a b : Io) where
   -- the command was done

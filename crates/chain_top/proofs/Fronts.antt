@@ -45,7 +45,7 @@ ends-behind ps q (Err stops.ReadFault) begun ends = ends
 ends-behind ps q (Err stops.WriteFault) begun ends = ends
 ends-behind ps q (Err stops.NoMemory) begun ends = ends
 
-not_refused : (line : List ℕ) → Done ≡ Refused line → ⊥
+pub not_refused : (line : List ℕ) → Done ≡ Refused line → ⊥
 not_refused line e = cc
 
 ends-cut : (T U : Type 0) (p q : Plan) (e : Stop) (begun : Begun) → p.end ≡ Done → Ends {T = T} p (Err e) begun → Ends {T = U} (behind p.steps q) (Err e) begun

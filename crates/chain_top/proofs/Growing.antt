@@ -27,6 +27,7 @@ use Rattle.chain_top.specs.Reply.{Reply, ended, reply_of, offered_model, offer_f
 use Rattle.chain_top.specs.Steps.{Line, lines_after, lines_of, reads_of, writes_of}
 use Rattle.chain_top.specs.Word.{Word}
 use Rattle.chain_top.proofs.Flat.{writes-both}
+use Rattle.chain_top.proofs.Fronts.{not_refused}
 use Rattle.chain_top.specs.Known.{Known}
 
 -- ---- bytes
@@ -129,15 +130,12 @@ pub data ApplyRun (hash : Hash) (check : Check) (ledger offers : Word) (given : 
 not_missing : Missing ≡ Done → ⊥
 not_missing e = cc
 
-pub not_refused : (line : List ℕ) → Refused line ≡ Done → ⊥
-not_refused line e = cc
-
 module _ (hash : Hash) (check : Check) (ledger offers : Word) (given : Given) (held : List ℕ) (first : given 0 ≡ Some held) (are : AreBytes held) (old : List Block) (is_ledger : LedgerOf hash check 1 held (Ok old)) where
   abbrev At : Plan → Type 0
   At plan = ApplyRun hash check ledger offers given (behind (Read ledger most_bytes ∷ []) plan)
 
   in_offers : (more : List ℕ) (offered : List Block) (plan : Plan) → given 1 ≡ Some more → AreBytes more → BlocksOf 2 more (Ok offered) → checks (FitsWith 2 held more) (λ fits. offers_model hash check ledger old offered) (later (later given)) plan → At (behind (Read offers most_bytes ∷ []) plan)
-  in_offers more offered plan second fit reads (is_refused bad) = ended_at (record { ends = λ e. absurd (not_refused _ e); nothing = refl })
+  in_offers more offered plan second fit reads (is_refused bad) = ended_at (record { ends = λ e. absurd (not_refused _ (sym e)); nothing = refl })
   in_offers more offered plan second fit reads (goes_on u fits (steps, owe, is)) = ran (record {
     held = held;
     more = more;
@@ -155,22 +153,22 @@ module _ (hash : Hash) (check : Check) (ledger offers : Word) (given : Given) (h
   })
 
   in_blocks : (more : List ℕ) (plan : Plan) → given 1 ≡ Some more → AreBytes more → offered_model hash check ledger held old more (later (later given)) plan → At (behind (Read offers most_bytes ∷ []) plan)
-  in_blocks more plan second fit (is_refused bad) = ended_at (record { ends = λ e. absurd (not_refused _ e); nothing = refl })
+  in_blocks more plan second fit (is_refused bad) = ended_at (record { ends = λ e. absurd (not_refused _ (sym e)); nothing = refl })
   in_blocks more plan second fit (goes_on offered reads rest) = in_offers more offered plan second fit reads rest
 
   in_file : (plan : Plan) → offer_file_model hash check ledger offers held old (later given) plan → At plan
   in_file plan (missing is) = ended_at (record { ends = λ e. absurd (not_missing e); nothing = refl })
-  in_file plan (too_long bytes is past) = ended_at (record { ends = λ e. absurd (not_refused _ e); nothing = refl })
+  in_file plan (too_long bytes is past) = ended_at (record { ends = λ e. absurd (not_refused _ (sym e)); nothing = refl })
   in_file plan (found more rest is short fit n) = in_blocks more rest is fit n
 
 module _ (hash : Hash) (check : Check) (ledger offers : Word) (given : Given) where
   in_ledger : (held : List ℕ) (plan : Plan) → given 0 ≡ Some held → AreBytes held → ledger_model hash check ledger offers held (later given) plan → ApplyRun hash check ledger offers given (behind (Read ledger most_bytes ∷ []) plan)
-  in_ledger held plan first are (is_refused bad) = ended_at (record { ends = λ e. absurd (not_refused _ e); nothing = refl })
+  in_ledger held plan first are (is_refused bad) = ended_at (record { ends = λ e. absurd (not_refused _ (sym e)); nothing = refl })
   in_ledger held plan first are (goes_on old good rest) = in_file hash check ledger offers given held first are old good plan rest
 
   pub apply_run : (plan : Plan) → apply_model hash check ledger offers given plan → ApplyRun hash check ledger offers given plan
   apply_run plan (missing is) = ended_at (record { ends = λ e. absurd (not_missing e); nothing = refl })
-  apply_run plan (too_long bytes is past) = ended_at (record { ends = λ e. absurd (not_refused _ e); nothing = refl })
+  apply_run plan (too_long bytes is past) = ended_at (record { ends = λ e. absurd (not_refused _ (sym e)); nothing = refl })
   apply_run plan (found held rest is short are n) = in_ledger held rest is are n
 
 -- what a file that is there reads as
@@ -190,7 +188,7 @@ module _ (laws : Known) (hash : Hash) (check : Check) where
 
   not_done_status : (steps : List Step) (end : End) → (ended steps end).status ≢ 0 → end ≢ Done
   not_done_status steps Done not_zero = λ e. absurd (not_zero refl)
-  not_done_status steps (Refused line) not_zero = λ e. absurd (not_refused line e)
+  not_done_status steps (Refused line) not_zero = λ e. absurd (not_refused line (sym e))
   not_done_status steps Missing not_zero = λ e. absurd (not_missing e)
 
   writes_line : (steps : List Step) (end : End) → writes_of steps ≡ [] → writes_of (ended steps end).steps ≡ []

@@ -22,6 +22,7 @@ use Rattle.chain_top.specs.Reply.{Choice, Reply, misfit, vm_model, init_model, o
 use Rattle.chain_top.specs.Steps.{reads_of, writes_of}
 use Rattle.chain_top.specs.Whole.{IsWhole, ReplyLaws, AnswerLaws}
 use Rattle.chain_top.specs.Word.{Word}
+use Rattle.chain_top.proofs.Asking.{not_both}
 use Rattle.chain_top.proofs.Concluding.{reads-ended}
 use Rattle.chain_top.proofs.Flat.{goes_on-whole}
 use Rattle.chain_top.proofs.Loads.{ledger_check, blocks_check}
@@ -38,9 +39,6 @@ comes_vm check limit program args given plan (goes_on line good is) = inl (ap (�
 comes_init : (hash : Hash) (ledger : Word) (time : ℕ) (program : Word) (given : Given) (plan : Plan) → init_model hash ledger time program given plan → Comes (Init ledger time program) (reply_of plan)
 comes_init hash ledger time program given plan (refused {line = line} bad) = inr (ap (λ (l : List ℕ). ended [] (Refused l)) bad.1)
 comes_init hash ledger time program given plan (goes_on code good is) = inl (ap (λ (p : Plan). (reply_of p).status) is)
-
-not_both : {V : Type 0} (v : V) (line : List ℕ) → ◌≡◌ {A = Result V (List ℕ)} (Ok v) (Err line) → ⊥
-not_both v line e = cc
 
 -- a file that is there, within the size
 module _ (name : List ℕ) (most place : ℕ) (next : List ℕ → Given → Plan → Type 0) (given : Given) (bytes : List ℕ) (there : given 0 ≡ Some bytes) (fits : length bytes ≤ most) where

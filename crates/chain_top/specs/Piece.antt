@@ -7,14 +7,18 @@ use Rattle.chain_top.specs.declared.line.Piece.{Piece}
 use Rattle.chain_top.specs.declared.line.Piece.TheVariants.{Nothing, Word, Number, Hex, Kind, Why}
 use Rattle.chain_top.specs.Line.{newline}
 
+abbrev pub word_of : Piece → List ℕ
+word_of Nothing = []
+word_of (Word word) = word.now
+word_of (Number number) = decimal number
+word_of (Hex id) = encode_lower id.now
+word_of (Kind kind) = kind_name kind
+word_of (Why failure) = failure_name failure
+
 -- a word behind a space, or nothing
 abbrev pub text_of : Piece → List ℕ
 text_of Nothing = []
-text_of (Word word) = 32 ∷ word.now
-text_of (Number number) = 32 ∷ decimal number
-text_of (Hex id) = 32 ∷ encode_lower id.now
-text_of (Kind kind) = 32 ∷ kind_name kind
-text_of (Why failure) = 32 ∷ failure_name failure
+text_of piece = 32 ∷ word_of piece
 
 -- all of them, joined
 abbrev pub joined : List Piece → List ℕ

@@ -2,7 +2,7 @@
 ghost use Rattle.std.specs.Prelude.{◌≡◌, ◌++◌, IfOk, OnOk, string_bytes};
 ghost use Rattle.vm_run.specs.declared.verdict.Verdict.TheVariants.{Succeeded, Failed};
 ghost use Rattle.chain_top.specs.Line.{verdict_line, block_line, accepted_line};
-ghost use Rattle.chain_top.specs.Piece.{text_of, joined, text_of_line};
+ghost use Rattle.chain_top.specs.Piece.{word_of, text_of, joined, text_of_line};
 
 use Piece::{Hex, Number, Why, Word};
 use data_model::DataKind;
@@ -51,16 +51,23 @@ fn add_all(alloc: Global, line: &mut String, words: &[Piece]) -> Result<(), Allo
 fn add(alloc: Global, line: &mut String, word: Piece) -> Result<(), AllocError>
     ensures { OnOk result (string_bytes line.new ≡ string_bytes line.old ++ text_of word.entry) }
 {
+    if let Piece::Nothing = word {
+        return Ok(());
+    }
+    line.push_str(" ")?;
+    add_word(alloc, line, word)
+}
+
+fn add_word(alloc: Global, line: &mut String, word: Piece) -> Result<(), AllocError>
+    ensures { OnOk result (string_bytes line.new ≡ string_bytes line.old ++ word_of word.entry) }
+{
     match word {
         Piece::Nothing => Ok(()),
-        Piece::Word(word) => write!(line, " {word}"),
-        Piece::Number(number) => write!(line, " {number}"),
-        Piece::Hex(id) => {
-            let hex = hex::encode(alloc, id.as_slice())?;
-            write!(line, " {hex}")
-        }
-        Piece::Kind(kind) => write!(line, " {kind}"),
-        Piece::Why(failure) => write!(line, " {failure}"),
+        Piece::Word(word) => line.push_str(word),
+        Piece::Number(number) => line.write(number),
+        Piece::Hex(id) => line.push_str(hex::encode(alloc, id.as_slice())?.as_str()),
+        Piece::Kind(kind) => line.write(kind),
+        Piece::Why(failure) => line.write(failure),
     }
 }
 
