@@ -86,9 +86,6 @@ passed {U = U} p a b e (Err y) is does = subst (λ (z : Stop). Does {T = U} p a 
 
 -- ---- one step, or none
 
-pub does-step : {T : Type 0} (s : Step) (a b : Io) (x : T) → WasDone s a.world b.world → b.place ≡ a.place → Does (done (s ∷ [])) a b (Ok x)
-does-step s a b x was place = record { begun = all_of (s ∷ []); front = ([], refl); did = all-did (s ∷ []) a.world b.world (b.world, was, refl); ends = (refl, refl); place = place }
-
 pub does-failed : {T : Type 0} (s : Step) (a b : Io) (e : Stop) → HasFailed s a.world b.world → b.place ≡ a.place → Ends {T = T} (done (s ∷ [])) (Err e) (record { done = []; failed = Some s }) → Does {T = T} (done (s ∷ [])) a b (Err e)
 does-failed s a b e failed place ends = record { begun = record { done = []; failed = Some s }; front = ([], refl); did = record { mid = a.world; done = refl; failed = failed }; ends = ends; place = place }
 

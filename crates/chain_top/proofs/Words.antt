@@ -13,9 +13,6 @@ use Rattle.hex.specs.declared.FromHexError.{FromHexError}
 use Rattle.hex.proofs.HexLemmas.{decode_of-ok}
 use Rattle.std.specs.Result.{result_ok}
 
-all_digits : List ℕ → Type 0
-all_digits ds = list_all is_ascii_digit ds ≡ true
-
 own : IsNumeralModel (λ ds. list_all is_ascii_digit ds ≡ true) (digits_value 10)
 own = numerals_by_value _ (search rules)
 
