@@ -4,7 +4,7 @@ use Rattle.std.specs.Prelude.{ℕ, IsErrAnd, IsTrue, IsFalse, String, option_to_
 use Rattle.std.specs.declared.alloc.Global.{Global}
 use Rattle.outside.specs.declared.fault.FileFault.{FileFault}
 use Rattle.outside.specs.declared.fault.FileFault.TheVariants as fault
-use Rattle.outside.specs.Steps.{Step, is_read, WasDone, HasFailed, Began}
+use Rattle.outside.specs.Steps.{Step, is_read, HasFailed, Began}
 use Rattle.outside.specs.World.{World, Io}
 use Rattle.chain_top.specs.Plan.{Done, Refused, Plan, done, refuse, behind, Ends, Does}
 use Rattle.chain_top.specs.Steps.{Begun, all_of, AllDone, Did, IsFront}

@@ -1,10 +1,13 @@
 -- What loading answers, by how far it came.
-use Rattle.std.proofs.Common.{◌≡◌, ℕ, List, [], ◌∷◌, Result, Ok, Err, refl, sym, subst}
+use Rattle.std.proofs.Common.{◌≡◌, ℕ, List, [], ◌∷◌, ◌++◌, length, Some, Result, Ok, Err, refl, sym, ap, subst, ◌≤◌, arith}
+use Rattle.chain_top.proofs.FewBlocks.{few_blocks}
 use Rattle.std.specs.Prelude.{IsErrAnd}
 use Rattle.data_model.specs.declared.block.Block.{Block}
 use Rattle.vm_run.specs.Row.{Check}
 use Rattle.ledger_core.specs.Held.{Held}
-use Rattle.ledger_core.specs.Refusal.{Hash}
+use Rattle.ledger_core.specs.declared.refusal.BlockRefusal.{BlockRefusal}
+use Rattle.ledger_core.specs.Chain.{Chain}
+use Rattle.ledger_core.specs.Refusal.{Hash, Refusal}
 use Rattle.ledger_core.specs.Start.{RefusesStart}
 use Rattle.ledger_core.specs.declared.refusal.StartFault.{StartFault}
 use Rattle.ledger_core.specs.declared.refusal.StartFault.TheVariants as starts
@@ -12,9 +15,9 @@ use Rattle.wire.specs.declared.fault.DataKind.TheVariants.{Count}
 use Rattle.wire.specs.Files.{FileFault}
 use Rattle.data_model.specs.Files.{BlocksReadAs}
 use Rattle.chain_top.specs.Files.{AreFramed, file_spelling}
-use Rattle.chain_top.specs.Loaded.{of_frames, of_start, Loads, NotGrown}
+use Rattle.chain_top.specs.Loaded.{of_frames, of_start, Loads}
 use Rattle.chain_top.specs.Asking.{Checked}
-use Rattle.chain_top.specs.Loading.{LoadsAs, empty, no_frames, no_start, no_next, LedgerOf}
+use Rattle.chain_top.specs.Loading.{LoadsAs, empty, no_frames, no_start, no_next, chain, LedgerOf}
 use Rattle.chain_top.specs.Refused.{RefusesLoad}
 use Rattle.chain_top.specs.declared.stop.Stop.{Stop}
 use Rattle.chain_top.proofs.Asking.{checked-refused}
@@ -55,15 +58,9 @@ module _ (hash : Hash) (check : Check) (bytes : List ℕ) where
   loads-not-started initial later fault r is reads why = loads_passed (of_start fault) r is (not_started initial later fault reads why)
 
   -- a later one does not extend those before it
-  not_grown : (blocks : List Block) (e : LoadFault) → BlocksReadAs bytes (Ok blocks) → NotGrown hash check blocks e → Loads hash check bytes (Err e)
-  not_grown blocks (faults.Block index why) reads (before, block, later, is, at, front, first) =
+  pub loads-refused : (blocks before later : List Block) (block : Block) (index : ℕ) (why : BlockRefusal) → BlocksReadAs bytes (Ok blocks) → blocks ≡ before ++ block ∷ later → index ≡ length before → Chain hash check before → Refusal hash check before block (Some why) → LoadsAs hash check bytes (Err (faults.Block index why))
+  loads-refused blocks before later block index why reads is at front first =
       subst (λ (n : ℕ). LoadsAs hash check bytes (Err (faults.Block n why))) (sym at) (no_next before block later (subst (λ (bs : List Block). BlocksReadAs bytes (Ok bs)) is reads) front first)
-  not_grown blocks (faults.Start why) reads is = absurd is
-  not_grown blocks (faults.Frame index at what) reads is = absurd is
-  not_grown blocks faults.NoMemory reads is = tt
-
-  pub loads-not-grown : (blocks : List Block) (e : LoadFault) (r : Result Held LoadFault) → IsErrAnd r (λ y. y ≡ e) → BlocksReadAs bytes (Ok blocks) → NotGrown hash check blocks e → Loads hash check bytes r
-  loads-not-grown blocks e r is reads why = loads_passed e r is (not_grown blocks e reads why)
 
   -- the line of its fault
   pub ledger-refused : (place : ℕ) (fault : LoadFault) (e : Stop) → Loads hash check bytes (Err fault) → RefusesLoad place fault e → Checked {T = Held} (λ ledger. ledger.blocks) (LedgerOf hash check place bytes) (Err e)
@@ -71,3 +68,7 @@ module _ (hash : Hash) (check : Check) (bytes : List ℕ) where
   ledger-refused place (faults.Start why) e loads told = checked-refused {T = Held} (λ ledger. ledger.blocks) (LedgerOf hash check place bytes) _ e told (_, loads, refl)
   ledger-refused place (faults.Block index why) e loads told = checked-refused {T = Held} (λ ledger. ledger.blocks) (LedgerOf hash check place bytes) _ e told (_, loads, refl)
   ledger-refused place faults.NoMemory e loads told = subst (λ (z : Stop). Checked {T = Held} (λ ledger. ledger.blocks) (LedgerOf hash check place bytes) (Err z)) (sym told) tt
+
+-- a ledger has no more blocks than its file has bytes
+pub loaded-few : (hash : Hash) (check : Check) (place : ℕ) (bytes : List ℕ) (blocks : List Block) → LedgerOf hash check place bytes (Ok blocks) → length blocks ≤ length bytes
+loaded-few hash check place bytes blocks (chain (framed, spelled) front) = omega (arith, few_blocks blocks, ap length spelled)

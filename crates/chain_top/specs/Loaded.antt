@@ -1,10 +1,8 @@
 -- What loading a ledger answers, against the definitions.
-use Rattle.std.specs.Prelude.{◌≡◌, ℕ, ◌++◌, ◌∷◌, List, length, Some, Result, Ok, Err}
-use Rattle.data_model.specs.declared.block.Block.{Block}
+use Rattle.std.specs.Prelude.{ℕ, List, Result, Ok, Err}
 use Rattle.vm_run.specs.Row.{Check}
-use Rattle.ledger_core.specs.Chain.{Chain}
 use Rattle.ledger_core.specs.Held.{Held}
-use Rattle.ledger_core.specs.Refusal.{Hash, Refusal}
+use Rattle.ledger_core.specs.Refusal.{Hash}
 use Rattle.ledger_core.specs.declared.refusal.StartFault.{StartFault}
 use Rattle.ledger_core.specs.declared.refusal.StartFault.TheVariants as starts
 use Rattle.chain_top.specs.Loading.{LoadsAs}
@@ -26,16 +24,3 @@ abbrev pub Loads : Hash → Check → List ℕ → Result Held LoadFault → Typ
 Loads hash check bytes (Ok ledger) = LoadsAs hash check bytes (Ok ledger.blocks)
 Loads hash check bytes (Err faults.NoMemory) = Unit {0}
 Loads hash check bytes (Err fault) = LoadsAs hash check bytes (Err fault)
-
--- one of these blocks does not extend those before it, which are a chain
-abbrev pub NotGrown : Hash → Check → List Block → LoadFault → Type 0
-NotGrown hash check blocks (faults.Block index why) =
-    (before : List Block)
-    × (block : Block)
-    × (later : List Block)
-    × (blocks ≡ before ++ block ∷ later)
-    × (index ≡ length before)
-    × Chain hash check before
-    × Refusal hash check before block (Some why)
-NotGrown hash check blocks faults.NoMemory = Unit {0}
-NotGrown hash check blocks fault = ⊥

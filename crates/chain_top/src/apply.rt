@@ -67,7 +67,6 @@ fn load_ledger<H: IdHash, C: SigCheck>(
     ensures ledger { Checked (λ ledger. ledger.blocks)
         (LedgerOf (H.hash_of hash.now) (C.good_of sigs.now) place bytes.now) result }
     ensures stands { IfOk result (StandsFor (H.hash_of hash.now) (C.good_of sigs.now)) }
-    ensures few { IfOk result (λ ledger. length ledger.blocks ≤ length bytes.now) }
 {
     match load(alloc, hash, sigs, bytes) {
         Ok(ledger) => Ok(ledger),

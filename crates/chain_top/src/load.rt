@@ -1,10 +1,10 @@
 //! The ledger of a file of blocks.
-ghost use Rattle.std.specs.Prelude.{◌≡◌, ◌+◌, ◌<◌, ◌≤◌, ◌^◌, ◌++◌, [], ◌∷◌, length, IfOk, IfErr, OnOk};
+ghost use Rattle.std.specs.Prelude.{◌≡◌, ◌+◌, ◌<◌, ◌^◌, ◌++◌, ℕ, List, length, Ok, IfOk};
 ghost use Rattle.ledger_core.specs.Chain.{StandsFor};
 ghost use Rattle.std.specs.Vec.Iter.{into_iter_items};
-ghost use Rattle.data_model.specs.Files.{IsFramed};
+ghost use Rattle.data_model.specs.Files.{BlocksReadAs};
 ghost use Rattle.chain_top.specs.Files.{AreFramed};
-ghost use Rattle.chain_top.specs.Loaded.{Loads, NotGrown};
+ghost use Rattle.chain_top.specs.Loaded.{Loads};
 
 use data_model::{Block, DataKind, FramesFault, read_blocks};
 use keyed::{IdHash, SigCheck};
@@ -61,9 +61,25 @@ pub fn load<H: IdHash, C: SigCheck>(
     requires { length bytes.now < 2 ^ 40 }
     ensures loads { Loads (H.hash_of hash.now) (C.good_of sigs.now) bytes.now result }
     ensures stands { IfOk result (StandsFor (H.hash_of hash.now) (C.good_of sigs.now)) }
-    ensures few { IfOk result (λ ledger. length ledger.blocks ≤ length bytes.now) }
 {
-    let mut blocks = read_blocks(alloc, bytes)?.into_vec().into_iter();
+    let blocks = read_blocks(alloc, bytes)?;
+    replay(alloc, hash, sigs, blocks.into_vec().into_iter())
+}
+
+// The ledger of these blocks, or its fault: what loading any file answers that reads as them.
+fn replay<H: IdHash, C: SigCheck>(
+    alloc: Global,
+    hash: &H,
+    sigs: &C,
+    mut blocks: IntoIter<Block>,
+) -> Result<Ledger, LoadFault>
+    requires framed { AreFramed (into_iter_items blocks) }
+    requires few { length (into_iter_items blocks) < 2 ^ 40 }
+    ensures loads { (bytes : List ℕ)
+        → BlocksReadAs bytes (Ok (into_iter_items blocks))
+        → Loads (H.hash_of hash.now) (C.good_of sigs.now) bytes result }
+    ensures stands { IfOk result (StandsFor (H.hash_of hash.now) (C.good_of sigs.now)) }
+{
     let Some(initial) = blocks.next() else {
         return Err(LoadFault::Frame {
             index: 0,
@@ -71,9 +87,8 @@ pub fn load<H: IdHash, C: SigCheck>(
             kind: DataKind::Count,
         });
     };
-    let mut ledger = Ledger::start(alloc, hash, initial)?;
-    grow(alloc, hash, sigs, &mut ledger, blocks)?;
-    Ok(ledger)
+    let ledger = Ledger::start(alloc, hash, initial)?;
+    grow(alloc, hash, sigs, ledger, blocks)
 }
 
 // Adds the later blocks.
@@ -81,16 +96,16 @@ fn grow<H: IdHash, C: SigCheck>(
     alloc: Global,
     hash: &H,
     sigs: &C,
-    ledger: &mut Ledger,
+    mut ledger: Ledger,
     mut later: IntoIter<Block>,
-) -> Result<(), LoadFault>
-    requires stands { StandsFor (H.hash_of hash.now) (C.good_of sigs.now) ledger.old }
+) -> Result<Ledger, LoadFault>
+    requires stands { StandsFor (H.hash_of hash.now) (C.good_of sigs.now) ledger }
     requires framed { AreFramed (into_iter_items later) }
-    requires few { length ledger.old.blocks + length (into_iter_items later) < 2 ^ 40 }
-    ensures stands { StandsFor (H.hash_of hash.now) (C.good_of sigs.now) ledger.new }
-    ensures all { OnOk result (ledger.new.blocks ≡ ledger.old.blocks ++ into_iter_items later) }
-    ensures refused { IfErr result
-        (NotGrown (H.hash_of hash.now) (C.good_of sigs.now) (ledger.old.blocks ++ into_iter_items later)) }
+    requires few { length ledger.blocks + length (into_iter_items later) < 2 ^ 40 }
+    ensures loads { (bytes : List ℕ)
+        → BlocksReadAs bytes (Ok (ledger.blocks ++ into_iter_items later))
+        → Loads (H.hash_of hash.now) (C.good_of sigs.now) bytes result }
+    ensures stands { IfOk result (StandsFor (H.hash_of hash.now) (C.good_of sigs.now)) }
 {
     while let Some(block) = later.next() {
         match ledger.offer(alloc, hash, sigs, block) {
@@ -102,5 +117,5 @@ fn grow<H: IdHash, C: SigCheck>(
             Err(OfferFault::NoMemory) => return Err(LoadFault::NoMemory),
         }
     }
-    Ok(())
+    Ok(ledger)
 }

@@ -1,4 +1,4 @@
-use Rattle.std.proofs.Common.{ℕ, List, Ok, Err, subst}
+use Rattle.std.proofs.Common.{ℕ, List, length, Ok, Err, ap, subst, arith}
 use Rattle.ledger_core.specs.Held.{Held}
 use Rattle.chain_top.specs.Asking.{Checked}
 use Rattle.chain_top.specs.Loading.{most_bytes, LedgerOf}
@@ -6,6 +6,7 @@ use Rattle.chain_top.specs.Plan.{Follows}
 use Rattle.chain_top.specs.Reply.{ledger_model, offer_file_model}
 use Rattle.chain_top.proofs.Asked.{asked-bytes}
 use Rattle.chain_top.proofs.Asking.{asked-then, asked-stopped, checked-then, checked-stopped, follows-passed}
+use Rattle.chain_top.proofs.Loaded.{loaded-few}
 use Rattle.chain_top.proofs.Models.{ledger-model}
 use Rattle.chain_top.proofs.apply.apply.Goals as goal
 
@@ -37,3 +38,9 @@ returns g c =
     let rest = subst (λ (bs : List ℕ). Follows (offer_file_model hash check c.args.ledger.now c.args.offers.now bs blocks) (g.O.Outside.io c.ask.new.out) (g.O.Outside.io c.offer_file.new.out) c.offer_file.result) c.as_slice-2.ensures.value c.offer_file.ensures in
     asked-then c.args.ledger.now most_bytes 1 (ledger_model hash check c.args.ledger.now c.args.offers.now) _ _ _ held _ c.in_ok-held.ensures.asked
     (checked-then (LedgerOf hash check 1 held.items) _ _ _ blocks _ good rest)
+
+pub offer_file-requires-clause-few : goal.offer_file-requires-clause-few
+offer_file-requires-clause-few g c =
+    let hash = g.H.IdHash.hash_of c.args.hash.now in
+    let check = g.C.SigCheck.good_of c.args.sigs.now in
+    omega (arith, loaded-few hash check 1 _ _ c.in_ok-chain.ensures.ledger, ap length c.as_slice.ensures.value, ap length c.as_slice-2.ensures.value)

@@ -1,6 +1,3 @@
-use Rattle.std.proofs.Common.{refl}
-use Rattle.ledger_core.specs.Held.{Held}
-use Rattle.chain_top.specs.Loading.{LedgerOf}
 use Rattle.chain_top.proofs.Loaded.{ledger-refused}
 use Rattle.chain_top.proofs.apply.load_ledger.Goals as goal
 

@@ -1,4 +1,4 @@
-use Rattle.std.proofs.Common.{List, refl, subst}
+use Rattle.std.proofs.Common.{refl, subst}
 use Rattle.data_model.specs.declared.block.Block.{Block}
 use Rattle.chain_top.specs.Initial.{initial_block}
 use Rattle.chain_top.specs.Plan.{done, Does}
