@@ -15,7 +15,8 @@ RefusesBy line stops.ReadFault = ⊥
 RefusesBy line stops.WriteFault = ⊥
 RefusesBy line stops.NoMemory = Unit {0}
 
--- it refuses by the line of this fault of the ledger that the word at this place names, or wants memory as the fault does
+-- it refuses by the line of this fault of the ledger that the word at this place names, or wants memory as the fault
+-- does
 abbrev pub RefusesLoad : ℕ → LoadFault → Stop → Type 0
 RefusesLoad place faults.NoMemory stop = stop ≡ stops.NoMemory
 RefusesLoad place fault stop = RefusesBy (load_line place fault) stop

@@ -27,7 +27,7 @@ pub enum Piece<'a> {
     Why(Failure),
 }
 
-/// The line of a head and the words behind it, with a space before each. It is made in one allocation.
+/// The line of a head and the words behind it, with a space before each. Its room is taken once, and it never grows.
 pub fn line(alloc: Global, head: &str, words: &[Piece]) -> Result<String, AllocError>
     ensures { IfOk result (λ line. string_bytes line ≡ text_of_line head.now words.now) }
 {
