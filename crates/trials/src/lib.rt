@@ -1,6 +1,6 @@
-//! Tests of library calls, a module a crate: what no contract says, each call once on its happy path, and the fakes'
-//! faults in turn; and a small record that shows how one is declared. Whole calls of the program are played by the
-//! crate `calls`.
+//! Tests of library calls, a module a crate: what no contract says, and each call once on its happy path; and a small
+//! record that shows how one is declared. Whole calls of the program, with each fault of files and a sink in memory, are
+//! played by the crate `calls`.
 #![tactic(auto)]
 
 #[cfg(test)]
