@@ -1,6 +1,6 @@
 //! Tests of library calls, a module a crate: what no contract says, and each call once on its happy path; and a small
-//! record that shows how one is declared. Whole calls of the program, with each fault of files and a sink in memory, are
-//! played by the crate `calls`.
+//! record that shows how one is declared. Whole calls of the program, with each fault of files and a sink in memory,
+//! are played by the crate `calls`.
 #![tactic(auto)]
 
 #[cfg(test)]

@@ -1,5 +1,5 @@
-//! The system's files and output. Files and a sink in memory, with each of their faults in turn, are played by the crate
-//! `calls`.
+//! The system's files and output. Files and a sink in memory, with each of their faults in turn, are played by the
+//! crate `calls`.
 ghost use Rattle.std.specs.Prelude.{◌<◌, ◌^◌};
 
 use outside::{FileFault, Files, Sink, StdFiles, StdSink};

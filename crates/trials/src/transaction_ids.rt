@@ -10,8 +10,8 @@ use std::alloc::Global;
 use std::test::Fail;
 use wire::{Id, NoMemory};
 
-// Made by another program, Python's hashlib, from the bodies written out by hand, for a chain whose initial block has an id
-// of zeros.
+// Made by another program, Python's hashlib, from the bodies written out by hand, for a chain whose initial block has
+// an id of zeros.
 const ASSET: &[u8; 32] =
     b"\xbf\x44\x1a\x4b\x82\x0f\xe7\x7f\xee\xde\xbd\x9b\x5c\xef\x76\x45\xec\xb5\x37\x16\x43\x05\x72\x03\
     \x50\x4e\x25\xae\x90\xbb\x17\xfc";

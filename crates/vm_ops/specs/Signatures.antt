@@ -1,6 +1,6 @@
 -- Signatures of one message by some of several keys (Chain VM 1, CHECKMULTISIG).
-use Rattle.std.specs.Prelude.{◌≡◌, ℕ, ◌+◌, ◌<◌, ◌&&◌, ◌||◌, Bool, true, false, List, [], ◌∷◌, length, take, drop, reverse}
-use Rattle.std.specs.Prelude.{slice_index_or}
+use Rattle.std.specs.Prelude.{◌≡◌, ℕ, ◌+◌, ◌<◌, ◌&&◌, ◌||◌, Bool, true, false, List, [], ◌∷◌, length, take, drop}
+use Rattle.std.specs.Prelude.{reverse, slice_index_or}
 use Rattle.vm_num.specs.Item.{Item}
 
 -- whether a signature is good, by the key, the message and the signature
@@ -24,8 +24,8 @@ is_multi_good check (k ∷ keys) message (s ∷ signatures) =
     check k message s && is_multi_good check keys message signatures
     || is_multi_good check keys message (s ∷ signatures)
 
--- In items, the top first: on top so many keys, below them the message, below it so many signatures. Keys and signatures
--- are read from the bottom up.
+-- In items, the top first: on top so many keys, below them the message, below it so many signatures. Keys and
+-- signatures are read from the bottom up.
 abbrev pub keys_in : ℕ → List Item → List Item
 keys_in n items = reverse (take n items)
 
