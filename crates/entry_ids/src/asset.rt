@@ -1,4 +1,5 @@
-ghost use Rattle.std.specs.Prelude.{◌≡◌, IfOk};
+ghost use Rattle.std.specs.Prelude.{◌≡◌, ◌++◌, IfOk, OnOk, codes};
+ghost use Rattle.wire.specs.Spelling.{varstring};
 ghost use Rattle.entry_ids.specs.Ids.{asset_id};
 
 use keyed::IdHash;
@@ -18,9 +19,22 @@ pub fn asset_id<H: IdHash>(
         (λ id. id ≡ asset_id (H.hash_of hash.now) initial.now program.now definition.now) }
 {
     let mut text = Writer::new(alloc)?;
+    put_asset(initial, program, definition, &mut text)?;
+    Ok(hash.hash(text.as_slice()))
+}
+
+// Adds what is hashed to the id of an asset.
+fn put_asset(
+    initial: &Id,
+    program: &[u8],
+    definition: &[u8],
+    text: &mut Writer,
+) -> Result<(), NoMemory>
+    ensures { let before = text.old ++ codes "asset1:" ++ initial.now in
+        OnOk result (text.new ≡ before ++ varstring program.now ++ varstring definition.now) }
+{
     text.raw(b"asset1:")?;
     text.raw(initial)?;
     text.text(program)?;
-    text.text(definition)?;
-    Ok(hash.hash(text.as_slice()))
+    text.text(definition)
 }

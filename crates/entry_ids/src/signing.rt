@@ -1,4 +1,4 @@
-ghost use Rattle.std.specs.Prelude.{◌≡◌, IfOk};
+ghost use Rattle.std.specs.Prelude.{◌≡◌, ◌++◌, IfOk, OnOk};
 ghost use Rattle.entry_ids.specs.Ids.{sig_hash};
 
 use keyed::IdHash;
@@ -11,7 +11,14 @@ pub fn sig_hash<H: IdHash>(alloc: Global, hash: &H, entry: &Id, tx: &Id) -> Resu
     ensures { IfOk result (λ id. id ≡ sig_hash (H.hash_of hash.now) entry.now tx.now) }
 {
     let mut text = Writer::new(alloc)?;
-    text.raw(entry)?;
-    text.raw(tx)?;
+    put_ids(entry, tx, &mut text)?;
     Ok(hash.hash(text.as_slice()))
+}
+
+// Adds two ids.
+fn put_ids(entry: &Id, tx: &Id, text: &mut Writer) -> Result<(), NoMemory>
+    ensures { OnOk result (text.new ≡ text.old ++ entry.now ++ tx.now) }
+{
+    text.raw(entry)?;
+    text.raw(tx)
 }

@@ -1,9 +1,9 @@
 //! Ids of a transaction and of what it has.
-ghost use Rattle.std.specs.Prelude.{◌≡◌, ◌<◌, ◌^◌, ◌++◌, length, slice_get, Some, IfOk, OnOk};
+ghost use Rattle.std.specs.Prelude.{◌≡◌, ◌<◌, ◌^◌, ◌++◌, [], length, slice_get, Some, IfOk, OnOk};
 ghost use Rattle.std.specs.List.{concat};
 ghost use Rattle.wire.specs.Spelling.{varint};
 ghost use Rattle.data_model.specs.Transaction.{IsInput, IsTx};
-ghost use Rattle.entry_ids.specs.Ids.{input_ids, value_of, mux_body, mux_id, results_of, result_ids, tx_id};
+ghost use Rattle.entry_ids.specs.Ids.{input_ids, value_of, mux_id, results_of, result_ids, tx_id};
 
 use crate::entry::entry_id;
 use crate::input::id_of_input;
@@ -35,15 +35,9 @@ pub fn tx_ids<H: IdHash>(alloc: Global, hash: &H, tx: &Tx) -> Result<TxIds, NoMe
     ensures results { IfOk result (λ ids. ids.results ≡ result_ids (H.hash_of hash.now) tx.now) }
     ensures tx { IfOk result (λ ids. ids.tx ≡ tx_id (H.hash_of hash.now) tx.now) }
 {
-    let mut text = Writer::new(alloc)?;
-    let mut body = Writer::new(alloc)?;
-    let inputs = put_inputs(alloc, hash, tx, &mut body, &mut text)?;
-    let mux = entry_id(hash, b"mux1", body.as_slice());
-    let results = put_results(alloc, hash, tx, &mux, &mut body, &mut text)?;
-    body.raw(&hash.hash(tx.refdata.as_slice()))?;
-    body.number(tx.mintime)?;
-    body.number(tx.maxtime)?;
-    let tx = entry_id(hash, b"txheader", body.as_slice());
+    let mut inputs = Ids::new(alloc);
+    let mut results = Ids::new(alloc);
+    let (mux, tx) = add_ids(alloc, hash, tx, &mut inputs, &mut results)?;
     Ok(TxIds {
         mux,
         inputs,
@@ -65,10 +59,10 @@ pub fn mux_id<H: IdHash>(alloc: Global, hash: &H, tx: &Tx) -> Result<Id, NoMemor
     requires { IsTx tx.now }
     ensures { IfOk result (λ id. id ≡ mux_id (H.hash_of hash.now) tx.now) }
 {
-    let mut text = Writer::new(alloc)?;
+    let mut ids = Ids::new(alloc);
     let mut body = Writer::new(alloc)?;
-    put_inputs(alloc, hash, tx, &mut body, &mut text)?;
-    Ok(entry_id(hash, b"mux1", body.as_slice()))
+    let mut text = Writer::new(alloc)?;
+    add_inputs(hash, tx, &mut ids, &mut body, &mut text)
 }
 
 /// The id of the entry of the k-th input, counted from 0.
@@ -92,20 +86,44 @@ pub fn result_id<H: IdHash>(alloc: Global, hash: &H, tx: &Tx, k: u64) -> Result<
     id_of_result(hash, &mux, k, &tx.outputs.as_slice()[k as usize], &mut text)
 }
 
-// Writes the body of the mux, and gives the ids of the inputs' entries.
-fn put_inputs<H: IdHash>(
+// Adds the ids of the inputs' entries and those of the outputs and retirements, and gives those of the mux and of the
+// transaction.
+fn add_ids<H: IdHash>(
     alloc: Global,
     hash: &H,
     tx: &Tx,
+    inputs: &mut Ids,
+    results: &mut Ids,
+) -> Result<(Id, Id), NoMemory>
+    requires tx { IsTx tx.now }
+    requires inputs { inputs.old ≡ [] }
+    requires results { results.old ≡ [] }
+    ensures inputs { OnOk result (inputs.new ≡ input_ids (H.hash_of hash.now) tx.now) }
+    ensures results { OnOk result (results.new ≡ result_ids (H.hash_of hash.now) tx.now) }
+    ensures mux { IfOk result (λ ids. ids.0 ≡ mux_id (H.hash_of hash.now) tx.now) }
+    ensures tx { IfOk result (λ ids. ids.1 ≡ tx_id (H.hash_of hash.now) tx.now) }
+{
+    let mut body = Writer::new(alloc)?;
+    let mut text = Writer::new(alloc)?;
+    let mux = add_inputs(hash, tx, inputs, &mut body, &mut text)?;
+    let id = add_results(hash, tx, &mux, results, &mut body, &mut text)?;
+    Ok((mux, id))
+}
+
+// Adds the ids of the inputs' entries, and gives that of the mux.
+fn add_inputs<H: IdHash>(
+    hash: &H,
+    tx: &Tx,
+    ids: &mut Ids,
     body: &mut Writer,
     text: &mut Writer,
-) -> Result<Ids, NoMemory>
-    requires { IsTx tx.now }
-    ensures ids { IfOk result (λ ids. ids ≡ input_ids (H.hash_of hash.now) tx.now) }
-    ensures body { OnOk result (body.new ≡ mux_body (H.hash_of hash.now) tx.now) }
+) -> Result<Id, NoMemory>
+    requires tx { IsTx tx.now }
+    requires none { ids.old ≡ [] }
+    ensures ids { OnOk result (ids.new ≡ input_ids (H.hash_of hash.now) tx.now) }
+    ensures mux { IfOk result (λ id. id ≡ mux_id (H.hash_of hash.now) tx.now) }
 {
     let inputs = tx.inputs.as_slice();
-    let mut ids = Ids::new(alloc);
     ids.reserve(inputs.len())?;
     body.clear();
     body.number(inputs.len() as u64)?;
@@ -115,7 +133,7 @@ fn put_inputs<H: IdHash>(
         put_value(input, body)?;
         ids.push(id)?;
     }
-    Ok(ids)
+    Ok(entry_id(hash, b"mux1", body.as_slice()))
 }
 
 // Adds the value that an input brings.
@@ -138,22 +156,44 @@ fn put_units(asset: &Id, amount: u64, body: &mut Writer) -> Result<(), NoMemory>
     body.number(amount)
 }
 
-// Writes the front of a transaction's body, with the ids of its outputs and retirements, and gives these.
-fn put_results<H: IdHash>(
-    alloc: Global,
+// Adds the ids of the outputs and retirements, which came from this mux, and gives that of the transaction.
+fn add_results<H: IdHash>(
     hash: &H,
     tx: &Tx,
     mux: &Id,
+    ids: &mut Ids,
     body: &mut Writer,
     text: &mut Writer,
-) -> Result<Ids, NoMemory>
-    requires { IsTx tx.now }
-    ensures ids { IfOk result (λ ids. ids ≡ results_of (H.hash_of hash.now) mux.now tx.now.outputs) }
+) -> Result<Id, NoMemory>
+    requires tx { IsTx tx.now }
+    requires mux { mux.now ≡ mux_id (H.hash_of hash.now) tx.now }
+    requires none { ids.old ≡ [] }
+    ensures ids { OnOk result (ids.new ≡ result_ids (H.hash_of hash.now) tx.now) }
+    ensures tx { IfOk result (λ id. id ≡ tx_id (H.hash_of hash.now) tx.now) }
+{
+    put_results(hash, tx, mux, ids, body, text)?;
+    body.raw(&hash.hash(tx.refdata.as_slice()))?;
+    body.number(tx.mintime)?;
+    body.number(tx.maxtime)?;
+    Ok(entry_id(hash, b"txheader", body.as_slice()))
+}
+
+// Writes the front of a transaction's body, and adds the ids of its outputs and retirements, which stand in it.
+fn put_results<H: IdHash>(
+    hash: &H,
+    tx: &Tx,
+    mux: &Id,
+    ids: &mut Ids,
+    body: &mut Writer,
+    text: &mut Writer,
+) -> Result<(), NoMemory>
+    requires tx { IsTx tx.now }
+    requires none { ids.old ≡ [] }
+    ensures ids { OnOk result (ids.new ≡ results_of (H.hash_of hash.now) mux.now tx.now.outputs) }
     ensures body { let ids = results_of (H.hash_of hash.now) mux.now tx.now.outputs in
         OnOk result (body.new ≡ varint tx.now.version ++ varint (length tx.now.outputs) ++ concat ids) }
 {
     let outputs = tx.outputs.as_slice();
-    let mut ids = Ids::new(alloc);
     ids.reserve(outputs.len())?;
     body.clear();
     body.number(tx.version)?;
@@ -163,5 +203,5 @@ fn put_results<H: IdHash>(
         body.raw(&id)?;
         ids.push(id)?;
     }
-    Ok(ids)
+    Ok(())
 }

@@ -7,7 +7,7 @@ use Rattle.entry_ids.proofs.tx.put_results.Goals as goal
 
 pub id_of_result-requires-clause-output : goal.id_of_result-requires-clause-output
 id_of_result-requires-clause-output g c =
-    is_output c.args.tx.now c.loop-position.position c.index-outputs-position.result c.requires (record { there = rw c.as_slice-outputs.ensures at c.loop-position-test.true; is = rw c.as_slice-outputs.ensures at c.index-outputs-position.is })
+    is_output c.args.tx.now c.loop-position.position c.index-outputs-position.result c.requires.tx (record { there = rw c.as_slice-outputs.ensures at c.loop-position-test.true; is = rw c.as_slice-outputs.ensures at c.index-outputs-position.is })
 
 pub loop-position-preserved : goal.loop-position-preserved
 loop-position-preserved g c =

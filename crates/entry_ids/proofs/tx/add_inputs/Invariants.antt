@@ -3,7 +3,7 @@ use Rattle.std.specs.Prelude.{map}
 use Rattle.std.specs.List.{flat_map}
 use Rattle.wire.specs.Spelling.{varint}
 use Rattle.entry_ids.specs.Ids.{input_id, value_of}
-use Rattle.entry_ids.proofs.tx.put_inputs.Given as goal
+use Rattle.entry_ids.proofs.tx.add_inputs.Given as goal
 
 abbrev pub invariant-loop-input : goal.invariant-loop-input
 invariant-loop-input g l =
