@@ -1,5 +1,5 @@
 ghost use Rattle.std.specs.Prelude.{◌<◌, ◌^◌, IfOk};
-ghost use Rattle.vm_run.specs.Row.{TimeFits};
+ghost use Rattle.vm_run.specs.Row.{NumbersFit};
 
 use keyed::NoSigs;
 use std::alloc::Global;
@@ -10,7 +10,7 @@ use wire::{Args, Bytes};
 // The context of a block of this time, whose id is 01, thirty times ab and 02.
 fn context_at(alloc: Global, time: u64) -> Result<Context, NoMemory>
     requires { time < 2 ^ 63 }
-    ensures { IfOk result TimeFits }
+    ensures { IfOk result NumbersFit }
 {
     let mut block_id = [0xab; 32];
     block_id[0] = 0x01;

@@ -24,12 +24,11 @@ abbrev pub is_within : ℕ → ℕ → ℕ → Bool
 is_within from to code = nat_le from code && nat_le code to
 
 -- The codes with nothing behind them: FALSE; 1NEGATE; 1 to 16 and NOP; VERIFY to CATPUSHDATA; 1ADD to WITHIN; SHA256;
--- CHECKSIG and CHECKMULTISIG; BLOCKHASH; CHECKPREDICATE; PROGRAM; NEXTPROGRAM and BLOCKTIME.
+-- CHECKSIG to BLOCKHASH; CHECKPREDICATE to OUTPUTID; NEXTPROGRAM and BLOCKTIME.
 abbrev pub is_plain : ℕ → Bool
 is_plain code =
     code == 0x00 || code == 0x4f || is_within 0x51 0x61 code || is_within 0x69 0x89 code || is_within 0x8b 0xa5 code
-    || code == 0xa8 || is_within 0xac 0xad code || code == 0xaf || code == 0xc0 || code == 0xc4
-    || is_within 0xcd 0xce code
+    || code == 0xa8 || is_within 0xac 0xaf code || is_within 0xc0 0xcb code || is_within 0xcd 0xce code
 
 -- JUMP and JUMPIF
 abbrev pub is_jump : ℕ → Bool

@@ -25,8 +25,11 @@ names =
     ∷ (0x9d, codes "NUMEQUALVERIFY") ∷ (0x9e, codes "NUMNOTEQUAL") ∷ (0x9f, codes "LESSTHAN")
     ∷ (0xa0, codes "GREATERTHAN") ∷ (0xa1, codes "LESSTHANOREQUAL") ∷ (0xa2, codes "GREATERTHANOREQUAL")
     ∷ (0xa3, codes "MIN") ∷ (0xa4, codes "MAX") ∷ (0xa5, codes "WITHIN") ∷ (0xa8, codes "SHA256")
-    ∷ (0xac, codes "CHECKSIG") ∷ (0xad, codes "CHECKMULTISIG") ∷ (0xaf, codes "BLOCKHASH")
-    ∷ (0xc0, codes "CHECKPREDICATE") ∷ (0xc4, codes "PROGRAM") ∷ (0xcd, codes "NEXTPROGRAM")
+    ∷ (0xac, codes "CHECKSIG") ∷ (0xad, codes "CHECKMULTISIG") ∷ (0xae, codes "TXSIGHASH")
+    ∷ (0xaf, codes "BLOCKHASH") ∷ (0xc0, codes "CHECKPREDICATE") ∷ (0xc1, codes "CHECKOUTPUT")
+    ∷ (0xc2, codes "ASSET") ∷ (0xc3, codes "AMOUNT") ∷ (0xc4, codes "PROGRAM") ∷ (0xc5, codes "MINTIME")
+    ∷ (0xc6, codes "MAXTIME") ∷ (0xc7, codes "TXDATA") ∷ (0xc8, codes "ENTRYDATA") ∷ (0xc9, codes "INDEX")
+    ∷ (0xca, codes "ENTRYID") ∷ (0xcb, codes "OUTPUTID") ∷ (0xcd, codes "NEXTPROGRAM")
     ∷ (0xce, codes "BLOCKTIME") ∷ []
 
 -- the name of a code in a table, and of one without a name the empty text

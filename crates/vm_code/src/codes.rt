@@ -150,12 +150,34 @@ pub const SHA256: u8 = 0xa8;
 pub const CHECKSIG: u8 = 0xac;
 /// Whether signatures of a message of 32 bytes are good for keys in their order.
 pub const CHECKMULTISIG: u8 = 0xad;
+/// Pushes the signature hash of the input.
+pub const TXSIGHASH: u8 = 0xae;
 /// Pushes the id of the context's block.
 pub const BLOCKHASH: u8 = 0xaf;
 /// Whether a program that is an item succeeds on items of its own, under a limit of its own.
 pub const CHECKPREDICATE: u8 = 0xc0;
+/// Whether an output of the transaction is as told.
+pub const CHECKOUTPUT: u8 = 0xc1;
+/// Pushes the asset of the input's value.
+pub const ASSET: u8 = 0xc2;
+/// Pushes the amount of the input's value.
+pub const AMOUNT: u8 = 0xc3;
 /// Pushes the outermost program of the context.
 pub const PROGRAM: u8 = 0xc4;
+/// Pushes the least time of the transaction.
+pub const MINTIME: u8 = 0xc5;
+/// Pushes the greatest time of the transaction.
+pub const MAXTIME: u8 = 0xc6;
+/// Pushes the hash of the transaction's data.
+pub const TXDATA: u8 = 0xc7;
+/// Pushes the hash of the input's data.
+pub const ENTRYDATA: u8 = 0xc8;
+/// Pushes the place of the input.
+pub const INDEX: u8 = 0xc9;
+/// Pushes the id of the input's entry.
+pub const ENTRYID: u8 = 0xca;
+/// Pushes the id of the output that is spent.
+pub const OUTPUTID: u8 = 0xcb;
 /// Pushes the next program of the context's block.
 pub const NEXTPROGRAM: u8 = 0xcd;
 /// Pushes the time of the context's block.

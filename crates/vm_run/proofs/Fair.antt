@@ -1,6 +1,6 @@
 -- What every line of the table keeps: its base cost is at least 1, and it jumps at most to the program's end.
 use Rattle.std.proofs.Common.{◌≡◌, ℕ, ◌+◌, ◌≤◌, Bool, true, false, cond, List, [], ◌∷◌, length, drop, min, max, leb, ltb, eqb, Option, Some, None, Ok, Err, ℤ, pos, negsuc, refl, sym, ◌∙◌, ap, arith}
-use Rattle.std.specs.Prelude.{bytes_eq, ◌&&◌, ◌||◌}
+use Rattle.std.specs.Prelude.{bytes_eq, slice_get, ◌&&◌, ◌||◌}
 use Rattle.std.specs.Ordering.{int_eq}
 use Rattle.std.proofs.lemmas.Bool.{cond_both, ltb-false, eqb-true, true≢false}
 use Rattle.std.proofs.lemmas.Bool.Decides.{nat_tests}
@@ -11,11 +11,13 @@ use Rattle.vm_ops.specs.Line.{Line, line_at-all}
 use Rattle.vm_ops.specs.Bytes.{bytes_line, bytes_base}
 use Rattle.vm_ops.specs.Signatures.{message_in}
 use Rattle.vm_ops.specs.Numbers.{number_line, number_base, number_count}
-use Rattle.vm_run.specs.Effect.{Context, Nothing, Block, BlockContext, Check, Row, Faults, Does, Calls, Rule, does, always, needs, on_one, on_two, on_three, on_alt, with_number, on_number, on_two_numbers, on_three_numbers, on_size, on_part, counted, by_count, in_block, push_row}
+use Rattle.vm_run.specs.Effect.{Context, Nothing, Tx, TxContext, Block, BlockContext, Check, Row, Faults, Does, Calls, Rule, does, always, needs, on_one, on_two, on_three, on_alt, with_number, on_number, on_two_numbers, on_three_numbers, on_size, on_part, counted, by_count, in_block, in_tx, push_row}
 use Rattle.vm_run.specs.Moving.{push_rule, jump_row, jump_if_row, verify_row, to_alt_row, from_alt_row, control_table, control_rule, drops, copies, moves, ifdup_row, nip_row, tuck_row, pick_row, roll_row, stack_table, stack_rule}
 use Rattle.vm_run.specs.Making.{string_row, of_string, of_two_strings, of_size, of_part, size_row, equalverify_row, string_table, string_rule, number_row, of_number, of_two_numbers, of_three_numbers, of_numbers, numequalverify_row, number_table, number_rule, call_row, calls, other_table, other_rule}
 use Rattle.vm_run.specs.Signing.{by_counts, signature_row, signatures_row}
-use Rattle.vm_run.specs.ContextLines.{context_table, context_rule}
+use Rattle.vm_run.specs.ContextLines.{sig_hash_row, on_numbers, on_told, output_row, output_at, output_id_row, program_row, context_table, context_rule}
+use Rattle.vm_run.specs.declared.transaction.OutSeen.{OutSeen}
+use Rattle.vm_stack.specs.Stacks.{item_at}
 use Rattle.vm_run.specs.Row.{row}
 
 -- ---- base costs
@@ -137,6 +139,7 @@ module _ (P : Option ℕ → Type 0) (none : P None) where
 
   of_block : (f : BlockContext → Item) (context : Context) → FairRule (in_block context (λ b. push_row (f b)))
   of_block f Nothing items alt = tt
+  of_block f (Tx t) items alt = tt
   of_block f (Block b) items alt = (one, none)
 
   -- ---- lines
@@ -291,12 +294,50 @@ module _ (P : Option ℕ → Type 0) (none : P None) where
       (either (ltb (length below) (n + 1 + m)) _ _ tt
       (either (eqb (length (message_in n below)) 32) _ _ (omega arith, none) tt))
 
+  of_tx : (line : TxContext → Rule) → ((t : TxContext) → FairRule (line t)) → (context : Context) → FairRule (in_tx context line)
+  of_tx line fair Nothing items alt = tt
+  of_tx line fair (Tx t) items alt = fair t items alt
+  of_tx line fair (Block b) items alt = tt
+
+  tx_item : (f : TxContext → Item) (context : Context) → FairRule (in_tx context (λ t. always (push_row (f t))))
+  tx_item f = of_tx (λ t. always (push_row (f t))) (λ t items alt. (one, none))
+
+  program : (context : Context) → Fair P (program_row context)
+  program Nothing = tt
+  program (Tx t) = (one, none)
+  program (Block b) = (one, none)
+
+  output : (o : Option OutSeen) (refdata : Item) (amount : ℕ) (asset : Item) (version_1 : Bool) (program : Item) → Fair P (output_row o refdata amount asset version_1 program)
+  output None refdata amount asset version_1 program = tt
+  output (Some o) refdata amount asset version_1 program = (omega arith, none)
+
+  checking : (t : TxContext) → FairRule (on_told (output_at t))
+  unfolding on_told on_numbers
+  checking t = needing 6 _ (λ items.
+      numbered _ (λ x. numbered _ (λ y. numbered _ (λ z.
+      positive _ (λ p. positive _ (λ n. output (slice_get t.outs p) _ n _ _ _) y) x) (num (item_at 1 items))) (num (item_at 3 items))) (num (item_at 5 items)))
+
+  spent_id : (id : Option Item) → Fair P (output_id_row id)
+  spent_id None = tt
+  spent_id (Some id) = (one, none)
+
   contexts : (context : Context) (code : ℕ) → FairRule (context_rule context code)
   unfolding context_rule
   contexts context code =
       line_at-all FairRule (always (Faults BadOpcode)) (context_table context) code bad
-      (of_block (λ b. b.block_id) context
-      & of_block (λ b. b.program) context
+      (of_tx (λ t. always (sig_hash_row t)) (λ t items alt. (omega arith, none)) context
+      & of_block (λ b. b.block_id) context
+      & of_tx (λ t. on_told (output_at t)) checking context
+      & tx_item (λ t. t.asset) context
+      & tx_item (λ t. num_bytes (pos t.amount)) context
+      & fixed (program_row context) (program context)
+      & tx_item (λ t. num_bytes (pos t.mintime)) context
+      & tx_item (λ t. num_bytes (pos t.maxtime)) context
+      & tx_item (λ t. t.data_hash) context
+      & tx_item (λ t. t.entry_data_hash) context
+      & tx_item (λ t. num_bytes (pos t.index)) context
+      & tx_item (λ t. t.entry_id) context
+      & of_tx (λ t. always (output_id_row t.output_id)) (λ t items alt. spent_id t.output_id) context
       & of_block (λ b. b.next_program) context
       & of_block (λ b. num_bytes (pos b.time)) context
       & tt)

@@ -7,13 +7,21 @@ use Rattle.vm_num.specs.declared.failure.Failure.{Failure}
 use Rattle.vm_num.specs.declared.failure.Failure.TheVariants.{Underflow, AltUnderflow, BadNumber, BadValue}
 use Rattle.vm_num.specs.declared.failure.Failure.TheVariants as failures
 pub use Rattle.vm_run.specs.declared.context.Context.{Context}
-pub use Rattle.vm_run.specs.declared.context.Context.TheVariants.{Nothing, Block}
+pub use Rattle.vm_run.specs.declared.context.Context.TheVariants.{Nothing, Tx, Block}
 pub use Rattle.vm_run.specs.declared.context.BlockContext.{BlockContext}
+pub use Rattle.vm_run.specs.declared.transaction.TxContext.{TxContext}
 
--- the time of a context's block is a 64-bit number
-abbrev pub TimeFits : Context → Type 0
-TimeFits Nothing = Unit {0}
-TimeFits (Block b) = b.time < 2 ^ 63
+-- the numbers of a context are 64-bit numbers
+pub record TxFits (t : TxContext) : Type 0 where
+  pub amount : t.amount < 2 ^ 63
+  pub mintime : t.mintime < 2 ^ 63
+  pub maxtime : t.maxtime < 2 ^ 63
+  pub index : t.index < 2 ^ 63
+
+abbrev pub NumbersFit : Context → Type 0
+NumbersFit Nothing = Unit {0}
+NumbersFit (Tx t) = TxFits t
+NumbersFit (Block b) = b.time < 2 ^ 63
 
 -- whether a signature is good, by the key, the message and the signature
 abbrev pub Check : Type 0
@@ -115,7 +123,11 @@ abbrev pub by_count : (ℕ → List Item → Row) → Rule
 by_count line [] alt = Faults Underflow
 by_count line (a ∷ below) alt = with_number (counted (λ n. line n below)) (num a)
 
--- a block
+-- a block, and an input of a transaction
 abbrev pub in_block : Context → (BlockContext → Row) → Rule
-in_block Nothing line = always (Faults failures.Context)
 in_block (Block b) line = always (line b)
+in_block other line = always (Faults failures.Context)
+
+abbrev pub in_tx : Context → (TxContext → Rule) → Rule
+in_tx (Tx t) line = line t
+in_tx other line = always (Faults failures.Context)

@@ -1,5 +1,5 @@
 -- What the code reads off a data stack for a line, against what the line needs.
-use Rattle.std.specs.Prelude.{◌≡◌, ◌<◌, ◌≤◌, ◌^◌, ℕ, ◌+◌, ℤ, List, ◌∷◌, length, drop, Result, Ok, Err}
+use Rattle.std.specs.Prelude.{◌≡◌, ◌<◌, ◌≤◌, ◌^◌, ℕ, ◌+◌, ℤ, Bool, List, ◌∷◌, length, drop, Result, Ok, Err}
 use Rattle.std.specs.Borrow.{Bor}
 use Rattle.vm_num.specs.Item.{Item}
 use Rattle.vm_num.specs.declared.failure.Failure.{Failure}
@@ -8,6 +8,8 @@ use Rattle.vm_run.specs.Effect.{Row, Faults, Calls, Rule, on_one, on_two, on_num
 use Rattle.vm_run.specs.Effect.{on_three, on_size, on_part, by_count}
 use Rattle.vm_run.specs.Making.{calls}
 use Rattle.vm_run.specs.Signing.{by_counts}
+use Rattle.vm_run.specs.ContextLines.{on_numbers, on_told}
+use Rattle.vm_run.specs.declared.context_lines.Told.{Told}
 
 -- at these items every line of a kind is a failure
 abbrev pub Fails : {Operands : Type 0} → (Operands → Rule) → List Item → Failure → Type 0
@@ -76,3 +78,18 @@ AreCounts items (Ok p) =
     × (p.1 < 2 ^ 63)
     × ((line : ℕ → ℕ → List Item → Row) (alt : List Item) → by_counts line items alt ≡ line p.0 p.1 (drop 2 items))
 AreCounts items (Err kind) = Fails by_counts items kind
+
+-- what CHECKOUTPUT is told of an output
+abbrev pub AreNumbers : (place amount version : Item) → Result (ℕ × ℕ × Bool) Failure → Type 0
+AreNumbers place amount version (Ok p) =
+    (line : ℕ → ℕ → Bool → Row) → on_numbers line place amount version ≡ line p.0 p.1 p.2
+AreNumbers place amount version (Err kind) =
+    (line : ℕ → ℕ → Bool → Row) → on_numbers line place amount version ≡ Faults kind
+
+abbrev pub IsTold : List Item → Result Told Failure → Type 0
+IsTold items (Ok told) =
+    (6 ≤ length items)
+    × ((line : ℕ → Item → ℕ → Item → Bool → Item → Row) (alt : List Item)
+    → on_told line items alt
+    ≡ line told.place told.refdata.now told.amount told.asset.now told.version_1 told.program.now)
+IsTold items (Err kind) = Fails on_told items kind

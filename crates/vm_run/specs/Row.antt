@@ -4,7 +4,7 @@ use Rattle.vm_num.specs.Item.{Item}
 use Rattle.vm_code.specs.Instruction.{Decoded}
 use Rattle.vm_run.specs.Moving.{push_rule, control_rule, stack_rule}
 use Rattle.vm_run.specs.Making.{string_rule, number_rule, other_rule}
-pub use Rattle.vm_run.specs.Effect.{Context, Nothing, Block, BlockContext, TimeFits, Check, Effect}
+pub use Rattle.vm_run.specs.Effect.{Context, Nothing, Block, BlockContext, NumbersFit, Check, Effect}
 pub use Rattle.vm_run.specs.Effect.{Row, Faults, Does, Calls, does, push_row, Rule}
 
 -- an instruction's line, in a context and in a program of a length

@@ -1,3 +1,4 @@
+use crate::TxContext;
 use wire::{Bytes, Id};
 
 /// A block that a program is run for.
@@ -18,6 +19,8 @@ pub struct BlockContext {
 pub enum Context {
     /// Nothing: there is only the program.
     Nothing,
+    /// An input of a transaction.
+    Tx(TxContext),
     /// A block.
     Block(BlockContext),
 }

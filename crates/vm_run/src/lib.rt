@@ -17,9 +17,11 @@ mod run;
 mod signing;
 mod step;
 mod strings;
+mod transaction;
 mod verdict;
 
 pub use context::{BlockContext, Context};
 use fault::StepFault;
 pub use memory::NoMemory;
+pub use transaction::{OutSeen, Outs, TxContext};
 pub use verdict::{Verdict, verify};

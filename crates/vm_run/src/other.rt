@@ -1,7 +1,7 @@
 // The lines of SHA256, of signatures and of what the context gives.
 ghost use Rattle.std.specs.Prelude.{◌≡◌, ◌≢◌, ◌<◌, ◌+◌, ◌^◌};
 ghost use Rattle.vm_stack.specs.Stacks.{held_cost};
-ghost use Rattle.vm_run.specs.Effect.{TimeFits};
+ghost use Rattle.vm_run.specs.Effect.{NumbersFit};
 ghost use Rattle.vm_run.specs.Follows.{Follows};
 ghost use Rattle.vm_run.specs.Making.{other_rule};
 
@@ -21,7 +21,7 @@ impl Machine {
         scratch: &mut Vec<u8>,
     ) -> Result<(), StepFault>
         requires other { code ≢ 0xc0 }
-        requires time { TimeFits ctx.now }
+        requires numbers { NumbersFit ctx.now }
         requires small { self.old.left + held_cost self.old.stack < 2 ^ 63 }
         ensures { Follows self.old (other_rule ctx.now (C.good_of sigs.now) code self.old.stack.items
             self.old.stack.alt) result self.new }

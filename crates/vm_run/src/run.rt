@@ -2,7 +2,7 @@
 ghost use Rattle.std.specs.Prelude.{◌<◌, ◌≤◌, ◌+◌, ◌^◌, length};
 ghost use Rattle.vm_stack.specs.Stacks.{held_cost};
 ghost use Rattle.vm_run.specs.Ends.{Ends};
-ghost use Rattle.vm_run.specs.Row.{TimeFits};
+ghost use Rattle.vm_run.specs.Row.{NumbersFit};
 
 use crate::machine::Machine;
 use crate::step::Done;
@@ -30,7 +30,7 @@ pub fn run<C: SigCheck>(
 ) -> Result<End, NoMemory>
     requires place { machine.old.at ≤ length program.now }
     requires small { machine.old.left + held_cost machine.old.stack < 2 ^ 63 }
-    requires time { TimeFits ctx.now }
+    requires numbers { NumbersFit ctx.now }
     ensures { Ends ctx.now (C.good_of sigs.now) program.now machine.old result machine.new }
 {
     while machine.at < program.len() as u64 {

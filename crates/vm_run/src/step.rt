@@ -3,7 +3,7 @@ ghost use Rattle.std.specs.Prelude.{◌≡◌, ◌≢◌, ◌<◌, ◌≤◌, �
 ghost use Rattle.vm_code.specs.Seen.{seen};
 ghost use Rattle.vm_stack.specs.Stacks.{held_cost};
 ghost use Rattle.vm_run.specs.Follows.{Follows, Leads, LeadsBy, held_in};
-ghost use Rattle.vm_run.specs.Row.{TimeFits, rule};
+ghost use Rattle.vm_run.specs.Row.{NumbersFit, rule};
 ghost use Rattle.vm_run.specs.Run.{move};
 
 use crate::machine::Machine;
@@ -34,7 +34,7 @@ impl Machine {
     ) -> Result<Done, StepFault>
         requires place { self.old.at < length program.now }
         requires small { self.old.left + held_cost self.old.stack < 2 ^ 63 }
-        requires time { TimeFits ctx.now }
+        requires numbers { NumbersFit ctx.now }
         ensures moves { Leads (move ctx.now (C.good_of sigs.now) program.now self.old.at self.old.stack.items
             self.old.stack.alt self.old.left) result self.new }
 
@@ -64,7 +64,7 @@ impl Machine {
         scratch: &mut Vec<u8>,
     ) -> Result<Done, StepFault>
         requires small { self.old.left + held_cost self.old.stack < 2 ^ 63 }
-        requires time { TimeFits ctx.now }
+        requires numbers { NumbersFit ctx.now }
         ensures { LeadsBy self.old (rule ctx.now (C.good_of sigs.now) (seen i.now) size self.old.stack.items
             self.old.stack.alt) result self.new }
     {
@@ -88,7 +88,7 @@ impl Machine {
     ) -> Result<(), StepFault>
         requires other { i.now.code ≢ 0xc0 }
         requires small { self.old.left + held_cost self.old.stack < 2 ^ 63 }
-        requires time { TimeFits ctx.now }
+        requires numbers { NumbersFit ctx.now }
         ensures { Follows self.old (rule ctx.now (C.good_of sigs.now) (seen i.now) size self.old.stack.items
             self.old.stack.alt) result self.new }
     {

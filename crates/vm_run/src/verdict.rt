@@ -1,7 +1,7 @@
 ghost use Rattle.std.specs.Prelude.{◌≡◌, ◌+◌, ◌-◌, ◌<◌, ◌≤◌, ◌^◌, [], min, reverse, IfOk};
 ghost use Rattle.vm_num.specs.Item.{total_cost};
 ghost use Rattle.vm_run.specs.Ends.{VerdictFrom, VerdictOf};
-ghost use Rattle.vm_run.specs.Row.{TimeFits};
+ghost use Rattle.vm_run.specs.Row.{NumbersFit};
 ghost use Rattle.vm_run.specs.Run.{Outcome, count_of};
 ghost use Rattle.vm_run.specs.Verdict.{RunOn, HasVerdict};
 
@@ -36,7 +36,7 @@ pub fn verify<C: SigCheck>(
     limit: u64,
 ) -> Result<Verdict, NoMemory>
     requires limit { limit < 2 ^ 63 }
-    requires time { TimeFits ctx.now }
+    requires numbers { NumbersFit ctx.now }
     ensures verdict { IfOk result (HasVerdict ctx.now (C.good_of sigs.now) program.now args.now limit) }
 
     // No more instructions complete than the limit says, over all nested predicates together.
@@ -65,7 +65,7 @@ fn start<C: SigCheck>(
     left: u64,
 ) -> Result<Verdict, NoMemory>
     requires small { left + total_cost args.now < 2 ^ 63 }
-    requires time { TimeFits ctx.now }
+    requires numbers { NumbersFit ctx.now }
     ensures { IfOk result (VerdictFrom ctx.now (C.good_of sigs.now) program.now (reverse args.now) left) }
 {
     let mut machine = Machine {
