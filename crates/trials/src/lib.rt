@@ -19,6 +19,8 @@ mod signatures;
 #[cfg(test)]
 mod transaction_ids;
 #[cfg(test)]
+mod transaction_programs;
+#[cfg(test)]
 mod transactions;
 #[cfg(test)]
 mod vm_code_calls;

@@ -16,7 +16,7 @@ const PLACES: [(&[u8], u64, u8, &[u8], u32, u64); 9] = [
 ];
 
 // Programs and their texts, each code but most of the data codes once.
-const TEXTS: [(&[u8], &str); 24] = [
+const TEXTS: [(&[u8], &str); 28] = [
     (b"", ""),
     (b"\x00", "FALSE"),
     (b"\x4f", "1NEGATE"),
@@ -51,8 +51,12 @@ const TEXTS: [(&[u8], &str); 24] = [
     ),
     (b"\xa8", "SHA256"),
     (b"\xac\xad", "CHECKSIG CHECKMULTISIG"),
-    (b"\xaf", "BLOCKHASH"),
-    (b"\xc0", "CHECKPREDICATE"),
+    (b"\xae\xaf", "TXSIGHASH BLOCKHASH"),
+    (b"\xc0\xc1", "CHECKPREDICATE CHECKOUTPUT"),
+    (b"\xc2\xc3", "ASSET AMOUNT"),
+    (b"\xc5\xc6", "MINTIME MAXTIME"),
+    (b"\xc7\xc8", "TXDATA ENTRYDATA"),
+    (b"\xc9\xca\xcb", "INDEX ENTRYID OUTPUTID"),
     (b"\xc4", "PROGRAM"),
     (b"\xcd\xce", "NEXTPROGRAM BLOCKTIME"),
     (b"\x52\x53\x93\x55\x9c", "2 3 ADD 5 NUMEQUAL"),

@@ -1,6 +1,6 @@
 -- The lines of what the context gives: an input of a transaction, or a block.
-use Rattle.std.specs.Prelude.{◌≡◌, ◌≤◌, ℕ, ◌==◌, ◌&&◌, ◌||◌, not, Bool, List, [], ◌∷◌, length, Option, Some, None, Result}
-use Rattle.std.specs.Prelude.{Ok, Err, if◌then◌else◌, slice_get, ℤ, pos, negsuc, bytes_eq, nat_eq}
+use Rattle.std.specs.Prelude.{ℕ, ◌&&◌, ◌||◌, not, Bool, List, [], ◌∷◌, length, Option, Some, None, Result}
+use Rattle.std.specs.Prelude.{Ok, Err, slice_get, pos, bytes_eq, nat_eq}
 use Rattle.std.specs.Ordering.{int_eq}
 use Rattle.vm_num.specs.Item.{Item, num, num_bytes}
 use Rattle.vm_num.specs.declared.failure.Failure.{Failure}
@@ -12,8 +12,8 @@ use Rattle.vm_run.specs.declared.transaction.OutSeen.{OutSeen}
 use Rattle.vm_run.specs.Effect.{Context, Nothing, Tx, Block, TxContext, Row, Faults, Rule, does, push_row, always}
 use Rattle.vm_run.specs.Effect.{needs, with_number, counted, in_block, in_tx}
 
--- An output under a program is as told: of this asset, this amount and this program, in version 1 of programs; and where
--- data is told, it is the output's hash of data.
+-- An output under a program is as told: of this asset, this amount and this program, in version 1 of programs; and
+-- where data is told, it is the output's hash of data.
 abbrev pub is_output : OutSeen → Item → ℕ → Item → Bool → Item → Bool
 is_output o refdata amount asset version_1 program =
     not o.retired
@@ -36,7 +36,8 @@ unfoldable pub on_numbers : (ℕ → ℕ → Bool → Row) → (place amount ver
 on_numbers line place amount version =
     with_number (λ x.
     with_number (λ y.
-    with_number (λ z. counted (λ p. counted (λ n. line p n (int_eq z (pos 1))) y) x) (num version)) (num amount)) (num place)
+    with_number (λ z. counted (λ p. counted (λ n. line p n (int_eq z (pos 1))) y) x)
+    (num version)) (num amount)) (num place)
 
 -- a place, data, an amount, an asset, whether a version is 1, and a program
 unfoldable pub on_told : (ℕ → Item → ℕ → Item → Bool → Item → Row) → Rule

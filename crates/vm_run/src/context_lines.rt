@@ -96,7 +96,8 @@ impl Machine {
     // The line of CHECKOUTPUT.
     fn check_output(&mut self, tx: &TxContext) -> Result<(), StepFault>
         requires small { self.old.left + held_cost self.old.stack < 2 ^ 63 }
-        ensures { Follows self.old (on_told (output_at tx.now) self.old.stack.items self.old.stack.alt) result self.new }
+        ensures { Follows self.old (on_told (output_at tx.now) self.old.stack.items self.old.stack.alt) result
+            self.new }
     {
         match answer(&self.stack, tx) {
             Ok(holds) => self.put(6, truth_bytes(holds), 16),
