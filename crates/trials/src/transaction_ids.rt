@@ -1,14 +1,14 @@
 ghost use Rattle.data_model.specs.Transaction.{IsTx};
 
 use crate::transactions::{ISSUES, SPENDS};
-use data_model::{Input, Tx, decode_tx};
+use data_model::{Input, OutputBody, Tx, decode_tx};
 use entry_ids::{
     asset_id, input_id, mux_id, nonce_id, output_id, result_id, sig_hash, tx_id, tx_ids,
 };
 use keyed::Sha256Id;
 use std::alloc::Global;
 use std::test::Fail;
-use wire::{Id, NoMemory};
+use wire::{Bytes, Id, NoMemory};
 
 // Made by another program, Python's hashlib, from the bodies written out by hand, for a chain whose initial block has
 // an id of zeros.
@@ -20,9 +20,10 @@ const NONCE: &[u8; 32] =
     b"\xf5\x88\x38\x5c\x4a\x26\xd8\xb3\x85\xab\x2d\xfc\xdc\xe2\x12\xb8\xb3\x68\x08\xc0\xe9\xc0\x0a\xdb\
     \xec\x28\x94\x56\x2d\x63\xdc\xb0";
 
-const OUTPUT: &[u8; 32] =
-    b"\x42\x24\x0f\x58\x8b\x71\x55\x6c\xcf\xd1\x50\x40\x1e\x25\xb4\xbc\xd4\x16\x4c\xb6\xf1\xae\x14\xdd\
-    \x82\xf2\xe0\x76\x99\x42\x94\x07";
+// The hash of no data.
+const NOTHING: &[u8; 32] =
+    b"\xe3\xb0\xc4\x42\x98\xfc\x1c\x14\x9a\xfb\xf4\xc8\x99\x6f\xb9\x24\x27\xae\x41\xe4\x64\x9b\x93\x4c\
+    \xa4\x95\x99\x1b\x78\x52\xb8\x55";
 
 // The ids of the mux, the first input, the first result and the transaction, and what signatures of that input sign.
 const OF_ISSUES: [Id; 5] = [
@@ -120,26 +121,41 @@ fn each_id_of_a_transaction(rt: HostRuntime) -> Result<(), Fail> {
     Ok(())
 }
 
-// The id of the asset, and those of the nonce of the first input or of the output that it spends.
-fn others(alloc: Global, tx: &Tx) -> Result<(Id, Option<Id>), NoMemory>
+// The id of the asset, and that of the nonce of the first input.
+fn asset_and_nonce(alloc: Global, tx: &Tx) -> Result<(Id, Option<Id>), NoMemory>
     requires { IsTx tx.now }
 {
     let asset = asset_id(alloc, &Sha256Id, &[0; 32], b"\x51", b"")?;
-    let id = match tx.inputs.as_slice().first() {
+    let nonce = match tx.inputs.as_slice().first() {
         Some(Input::Issue(issue)) => {
             Some(nonce_id(alloc, &Sha256Id, issue, tx.mintime, tx.maxtime)?)
         }
-        Some(Input::Spend(spend)) => Some(output_id(alloc, &Sha256Id, &spend.from)?),
-        None => None,
+        Some(Input::Spend(_)) | None => None,
     };
-    Ok((asset, id))
+    Ok((asset, nonce))
 }
 
 #[test]
-fn ids_of_assets_nonces_and_outputs(rt: HostRuntime) -> Result<(), Fail> {
+fn ids_of_assets_and_nonces(rt: HostRuntime) -> Result<(), Fail> {
     let issues = decode_tx(rt.alloc(), ISSUES)?;
-    assert!(rt; others(rt.alloc(), &issues)? == (*ASSET, Some(*NONCE)));
-    let spends = decode_tx(rt.alloc(), SPENDS)?;
-    assert!(rt; others(rt.alloc(), &spends)? == (*ASSET, Some(*OUTPUT)));
+    assert!(rt; asset_and_nonce(rt.alloc(), &issues)? == (*ASSET, Some(*NONCE)));
     Ok(())
+}
+
+// The id of the output that was issued.
+fn issued(alloc: Global) -> Result<Id, NoMemory> {
+    let body = OutputBody {
+        source: OF_ISSUES[0],
+        position: 0,
+        asset: *ASSET,
+        amount: 100,
+        program: Bytes::from_slice(alloc, &[0x51])?,
+        data_hash: *NOTHING,
+    };
+    output_id(alloc, &Sha256Id, &body)
+}
+
+#[test]
+fn ids_of_outputs(rt: HostRuntime) {
+    assert!(rt; issued(rt.alloc()) == Ok(OF_ISSUES[2]));
 }
