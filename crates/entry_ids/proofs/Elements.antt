@@ -1,6 +1,6 @@
 -- What holds of one of a transaction's inputs or outputs, and of ids that are found one after the other.
-use Rattle.std.proofs.Common.{◌≡◌, ℕ, zero, suc, ◌+◌, ◌<◌, List, [], ◌∷◌, ◌++◌, length, take, get_or, Some, Result, Ok, Err, sym, ap, subst, ◌∙◌, append_assoc, append-nil, add-one, arith}
-use Rattle.std.specs.Prelude.{map, slice_get, IfOk}
+use Rattle.std.proofs.Common.{◌≡◌, ℕ, zero, suc, ◌+◌, ◌<◌, List, [], ◌∷◌, ◌++◌, length, take, get_or, Some, sym, ap, subst, ◌∙◌, append_assoc, append-nil, add-one, arith}
+use Rattle.std.specs.Prelude.{map, slice_get}
 use Rattle.std.specs.List.{AllByRecursion, concat, enumerate_from}
 use Rattle.wire.specs.Layout.{Fits}
 use Rattle.wire.specs.Records.{AllByRecursion-map}
@@ -64,8 +64,3 @@ module _ {X Y : Type 0} (f : ℕ → X → Y) where
 pub concat_more : (ids : List (List ℕ)) (id : List ℕ) → concat (ids ++ id ∷ []) ≡ concat ids ++ id
 concat_more [] id = append-nil id
 concat_more (x ∷ ids) id = ap (λ rest. x ++ rest) (concat_more ids id) ∙ sym (append_assoc x (concat ids) id)
-
--- an id that was found is the one of that place
-pub found_at : {E : Type 0} (ids : List (List ℕ)) (k : ℕ) (id : List ℕ) (r : Result (List ℕ) E) → slice_get ids k ≡ Some id → IfOk r (λ x. x ≡ id) → IfOk r (λ x. slice_get ids k ≡ Some x)
-found_at ids k id (Ok x) e h = e ∙ ap (λ y. Some y) (sym h)
-found_at ids k id (Err f) e h = tt

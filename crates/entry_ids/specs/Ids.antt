@@ -1,6 +1,6 @@
 -- The ids of what a transaction has, for any hash: the body of each type of entry, its fields one after the other. The
 -- hash of data stands for the data.
-use Rattle.std.specs.Prelude.{ℕ, List, [], ◌∷◌, ◌++◌, length, map, codes}
+use Rattle.std.specs.Prelude.{◌≡◌, ℕ, List, [], ◌∷◌, ◌++◌, length, map, codes}
 use Rattle.std.specs.List.{concat, flat_map, enumerate_from}
 use Rattle.wire.specs.Spelling.{varint, varstring}
 use Rattle.data_model.specs.declared.input.Issue.{Issue}
@@ -12,6 +12,9 @@ use Rattle.data_model.specs.declared.output.Retire.{Retire}
 use Rattle.data_model.specs.declared.output.Output.{Output}
 use Rattle.data_model.specs.declared.tx.Tx.{Tx}
 use Rattle.data_model.specs.Transaction.{body_spelling}
+use Rattle.entry_ids.specs.declared.input.Named.{Named}
+use Rattle.entry_ids.specs.declared.input.Named.TheVariants as named_as
+use Rattle.entry_ids.specs.declared.tx.TxIds.{TxIds}
 use Rattle.entry_ids.specs.Entry.{Hash, entry}
 
 -- the id of an asset: the initial block's id, its program and its definition
@@ -60,6 +63,21 @@ input_id hash tx (Input.Spend spend) = entry hash (codes "spend1") (spend_body h
 abbrev pub input_ids : Hash → Tx → List (List ℕ)
 input_ids hash tx = map (input_id hash tx) tx.inputs
 
+-- the nonce that an issuance uses, by its id; nothing where it is empty
+abbrev pub nonce_named : (nonce id : List ℕ) → Named
+nonce_named [] id = named_as.Nothing
+nonce_named (b ∷ nonce) id = named_as.Nonce id
+
+-- what an input names: the nonce that it uses, or the output that it spends
+unfoldable pub names : Hash → Tx → Input → Named
+names hash tx (Input.Issue issue) = nonce_named issue.nonce (nonce_id hash issue tx.mintime tx.maxtime)
+names hash tx (Input.Spend spend) = named_as.Output (output_id hash spend.from)
+
+-- the hash of an input's data
+unfoldable pub input_data : Hash → Input → List ℕ
+input_data hash (Input.Issue issue) = hash issue.refdata
+input_data hash (Input.Spend spend) = hash spend.refdata
+
 -- ---- the mux
 
 -- asset, amount
@@ -105,6 +123,11 @@ results_of hash mux outputs = map (λ x. result_id hash mux x.0 x.1) (enumerate_
 abbrev pub result_ids : Hash → Tx → List (List ℕ)
 result_ids hash tx = results_of hash (mux_id hash tx) tx.outputs
 
+-- the hash of the data of an output or a retirement
+unfoldable pub result_data : Hash → Output → List ℕ
+result_data hash (Output.Control control) = hash control.refdata
+result_data hash (Output.Retire retire) = hash retire.refdata
+
 -- ---- transactions
 
 -- version, how many outputs there are, their ids, data hash, mintime, maxtime
@@ -116,3 +139,17 @@ tx_body hash tx =
 
 unfoldable pub tx_id : Hash → Tx → List ℕ
 tx_id hash tx = entry hash (codes "txheader") (tx_body hash tx)
+
+-- ---- all of them
+
+-- All ids of a transaction's entries and all hashes of its data; of the inputs in order, and of the outputs and
+-- retirements in order.
+pub record AreIds (hash : Hash) (tx : Tx) (ids : TxIds) : Type 0 where
+  pub id : ids.tx ≡ tx_id hash tx
+  pub mux : ids.mux ≡ mux_id hash tx
+  pub data_hash : ids.data_hash ≡ hash tx.refdata
+  pub inputs : ids.inputs ≡ input_ids hash tx
+  pub named : ids.named ≡ map (names hash tx) tx.inputs
+  pub input_data : ids.input_data ≡ map (input_data hash) tx.inputs
+  pub results : ids.results ≡ result_ids hash tx
+  pub result_data : ids.result_data ≡ map (result_data hash) tx.outputs

@@ -1,49 +1,52 @@
 //! Ids of a transaction and of what it has.
-ghost use Rattle.std.specs.Prelude.{◌≡◌, ◌<◌, ◌^◌, ◌++◌, [], length, slice_get, Some, IfOk, OnOk};
+ghost use Rattle.std.specs.Prelude.{◌≡◌, ◌<◌, ◌^◌, ◌++◌, [], length, map, slice_get, Some, IfOk, OnOk};
 ghost use Rattle.std.specs.List.{concat};
 ghost use Rattle.wire.specs.Spelling.{varint};
 ghost use Rattle.data_model.specs.Transaction.{IsInput, IsTx};
-ghost use Rattle.entry_ids.specs.Ids.{input_ids, value_of, mux_id, results_of, result_ids, tx_id};
+ghost use Rattle.entry_ids.specs.Ids.{AreIds, input_ids, names, input_data, value_of, mux_id};
+ghost use Rattle.entry_ids.specs.Ids.{results_of, result_ids, result_data, tx_id};
 
+use crate::Names;
 use crate::entry::entry_id;
-use crate::input::id_of_input;
-use crate::output::id_of_result;
+use crate::input::ids_of_input;
+use crate::lists::{InputLists, ResultLists};
+use crate::output::ids_of_result;
 use data_model::{Ids, Input, Tx};
 use keyed::IdHash;
 use std::alloc::Global;
 use wire::{Id, NoMemory, Writer};
 
-/// The ids of a transaction's entries.
+/// The ids of a transaction's entries, and the hashes of its data.
 #[derive(Debug, Drop)]
 pub struct TxIds {
-    pub mux: Id,
-    /// Those of the inputs, in order.
-    pub inputs: Ids,
-    /// Those of the outputs and retirements, in order.
-    pub results: Ids,
     pub tx: Id,
+    pub mux: Id,
+    /// The hash of the transaction's data.
+    pub data_hash: Id,
+    /// The ids of the inputs' entries, in order.
+    pub inputs: Ids,
+    /// What the inputs name, in order.
+    pub named: Names,
+    /// The hashes of the inputs' data, in order.
+    pub input_data: Ids,
+    /// The ids of the outputs and retirements, in order.
+    pub results: Ids,
+    /// The hashes of the data of the outputs and retirements, in order.
+    pub result_data: Ids,
 }
 
-/// The ids of a transaction's entries, formed together. It hashes each string once: the data of the transaction, of its
-/// inputs and of its outputs; and of each entry, nonce and spent output the body, and then the type with that hash. So
-/// the bytes that are hashed are linear in those of the transaction's spelling. The arguments of the inputs are not
-/// hashed, nor are the programs and definitions of issuances, which the asset names.
+/// The ids of a transaction's entries and the hashes of its data, formed together. It hashes each string once: the data
+/// of the transaction, of its inputs and of its outputs; and of each entry, nonce and spent output the body, and then
+/// the type with that hash. So the bytes that are hashed are linear in those of the transaction's spelling. The
+/// arguments of the inputs are not hashed, nor are the programs and definitions of issuances, which the asset names.
 pub fn tx_ids<H: IdHash>(alloc: Global, hash: &H, tx: &Tx) -> Result<TxIds, NoMemory>
     requires { IsTx tx.now }
-    ensures mux { IfOk result (λ ids. ids.mux ≡ mux_id (H.hash_of hash.now) tx.now) }
-    ensures inputs { IfOk result (λ ids. ids.inputs ≡ input_ids (H.hash_of hash.now) tx.now) }
-    ensures results { IfOk result (λ ids. ids.results ≡ result_ids (H.hash_of hash.now) tx.now) }
-    ensures tx { IfOk result (λ ids. ids.tx ≡ tx_id (H.hash_of hash.now) tx.now) }
+    ensures { IfOk result (AreIds (H.hash_of hash.now) tx.now) }
 {
-    let mut inputs = Ids::new(alloc);
-    let mut results = Ids::new(alloc);
-    let (mux, tx) = add_ids(alloc, hash, tx, &mut inputs, &mut results)?;
-    Ok(TxIds {
-        mux,
-        inputs,
-        results,
-        tx,
-    })
+    let mut of_inputs = InputLists::with_room(alloc, tx.inputs.len())?;
+    let mut of_results = ResultLists::with_room(alloc, tx.outputs.len())?;
+    let own = add_ids(alloc, hash, tx, &mut of_inputs, &mut of_results)?;
+    Ok(together(own, of_inputs, of_results))
 }
 
 /// The id of a transaction.
@@ -59,10 +62,10 @@ pub fn mux_id<H: IdHash>(alloc: Global, hash: &H, tx: &Tx) -> Result<Id, NoMemor
     requires { IsTx tx.now }
     ensures { IfOk result (λ id. id ≡ mux_id (H.hash_of hash.now) tx.now) }
 {
-    let mut ids = Ids::new(alloc);
+    let mut lists = InputLists::with_room(alloc, tx.inputs.len())?;
     let mut body = Writer::new(alloc)?;
     let mut text = Writer::new(alloc)?;
-    add_inputs(hash, tx, &mut ids, &mut body, &mut text)
+    add_inputs(hash, tx, &mut lists, &mut body, &mut text)
 }
 
 /// The id of the entry of the k-th input, counted from 0.
@@ -72,7 +75,8 @@ pub fn input_id<H: IdHash>(alloc: Global, hash: &H, tx: &Tx, k: u64) -> Result<I
     ensures { IfOk result (λ id. slice_get (input_ids (H.hash_of hash.now) tx.now) k ≡ Some id) }
 {
     let mut text = Writer::new(alloc)?;
-    id_of_input(hash, tx, &tx.inputs.as_slice()[k as usize], &mut text)
+    let ids = ids_of_input(hash, tx, &tx.inputs.as_slice()[k as usize], &mut text)?;
+    Ok(ids.entry)
 }
 
 /// The id of the k-th output or retirement, counted from 0.
@@ -83,55 +87,113 @@ pub fn result_id<H: IdHash>(alloc: Global, hash: &H, tx: &Tx, k: u64) -> Result<
 {
     let mux = mux_id(alloc, hash, tx)?;
     let mut text = Writer::new(alloc)?;
-    id_of_result(hash, &mux, k, &tx.outputs.as_slice()[k as usize], &mut text)
+    let ids = ids_of_result(hash, &mux, k, &tx.outputs.as_slice()[k as usize], &mut text)?;
+    Ok(ids.entry)
 }
 
-// Adds the ids of the inputs' entries and those of the outputs and retirements, and gives those of the mux and of the
-// transaction.
+// What is formed for a transaction itself.
+#[derive(Clone, Copy)]
+struct OwnIds {
+    tx: Id,
+    mux: Id,
+    data_hash: Id,
+}
+
+// All of it as one.
+fn together(own: OwnIds, of_inputs: InputLists, of_results: ResultLists) -> TxIds
+    ensures { result ≡ record {
+      tx = own.tx;
+      mux = own.mux;
+      data_hash = own.data_hash;
+      inputs = of_inputs.entries;
+      named = of_inputs.named;
+      input_data = of_inputs.data_hashes;
+      results = of_results.entries;
+      result_data = of_results.data_hashes;
+    } }
+{
+    let OwnIds { tx, mux, data_hash } = own;
+    let InputLists {
+        entries: inputs,
+        named,
+        data_hashes: input_data,
+    } = of_inputs;
+    let ResultLists {
+        entries: results,
+        data_hashes: result_data,
+    } = of_results;
+    TxIds {
+        tx,
+        mux,
+        data_hash,
+        inputs,
+        named,
+        input_data,
+        results,
+        result_data,
+    }
+}
+
+// Adds what is formed for the inputs and for the outputs and retirements, and gives what is formed for the transaction.
 fn add_ids<H: IdHash>(
     alloc: Global,
     hash: &H,
     tx: &Tx,
-    inputs: &mut Ids,
-    results: &mut Ids,
-) -> Result<(Id, Id), NoMemory>
+    of_inputs: &mut InputLists,
+    of_results: &mut ResultLists,
+) -> Result<OwnIds, NoMemory>
     requires tx { IsTx tx.now }
-    requires inputs { inputs.old ≡ [] }
-    requires results { results.old ≡ [] }
-    ensures inputs { OnOk result (inputs.new ≡ input_ids (H.hash_of hash.now) tx.now) }
-    ensures results { OnOk result (results.new ≡ result_ids (H.hash_of hash.now) tx.now) }
-    ensures mux { IfOk result (λ ids. ids.0 ≡ mux_id (H.hash_of hash.now) tx.now) }
-    ensures tx { IfOk result (λ ids. ids.1 ≡ tx_id (H.hash_of hash.now) tx.now) }
+    requires no_entries { of_inputs.old.entries ≡ [] }
+    requires no_names { of_inputs.old.named ≡ [] }
+    requires no_hashes { of_inputs.old.data_hashes ≡ [] }
+    requires no_results { of_results.old.entries ≡ [] }
+    requires no_result_hashes { of_results.old.data_hashes ≡ [] }
+    ensures inputs { OnOk result (of_inputs.new.entries ≡ input_ids (H.hash_of hash.now) tx.now) }
+    ensures named { OnOk result (of_inputs.new.named ≡ map (names (H.hash_of hash.now) tx.now) tx.now.inputs) }
+    ensures input_data { OnOk result
+        (of_inputs.new.data_hashes ≡ map (input_data (H.hash_of hash.now)) tx.now.inputs) }
+    ensures results { OnOk result (of_results.new.entries ≡ result_ids (H.hash_of hash.now) tx.now) }
+    ensures result_data { OnOk result
+        (of_results.new.data_hashes ≡ map (result_data (H.hash_of hash.now)) tx.now.outputs) }
+    ensures mux { IfOk result (λ own. own.mux ≡ mux_id (H.hash_of hash.now) tx.now) }
+    ensures tx { IfOk result (λ own. own.tx ≡ tx_id (H.hash_of hash.now) tx.now) }
+    ensures data_hash { IfOk result (λ own. own.data_hash ≡ H.hash_of hash.now tx.now.refdata) }
 {
+    let data_hash = hash.hash(tx.refdata.as_slice());
     let mut body = Writer::new(alloc)?;
     let mut text = Writer::new(alloc)?;
-    let mux = add_inputs(hash, tx, inputs, &mut body, &mut text)?;
-    let id = add_results(hash, tx, &mux, results, &mut body, &mut text)?;
-    Ok((mux, id))
+    let mux = add_inputs(hash, tx, of_inputs, &mut body, &mut text)?;
+    put_results(hash, tx, &mux, of_results, &mut body, &mut text)?;
+    let tx = end(hash, tx, &data_hash, &mut body)?;
+    Ok(OwnIds { tx, mux, data_hash })
 }
 
-// Adds the ids of the inputs' entries, and gives that of the mux.
+// Adds what is formed for the inputs, and gives the id of the mux.
 fn add_inputs<H: IdHash>(
     hash: &H,
     tx: &Tx,
-    ids: &mut Ids,
+    lists: &mut InputLists,
     body: &mut Writer,
     text: &mut Writer,
 ) -> Result<Id, NoMemory>
     requires tx { IsTx tx.now }
-    requires none { ids.old ≡ [] }
-    ensures ids { OnOk result (ids.new ≡ input_ids (H.hash_of hash.now) tx.now) }
+    requires no_entries { lists.old.entries ≡ [] }
+    requires no_names { lists.old.named ≡ [] }
+    requires no_hashes { lists.old.data_hashes ≡ [] }
+    ensures entries { OnOk result (lists.new.entries ≡ input_ids (H.hash_of hash.now) tx.now) }
+    ensures named { OnOk result (lists.new.named ≡ map (names (H.hash_of hash.now) tx.now) tx.now.inputs) }
+    ensures data_hashes { OnOk result
+        (lists.new.data_hashes ≡ map (input_data (H.hash_of hash.now)) tx.now.inputs) }
     ensures mux { IfOk result (λ id. id ≡ mux_id (H.hash_of hash.now) tx.now) }
 {
     let inputs = tx.inputs.as_slice();
-    ids.reserve(inputs.len())?;
     body.clear();
     body.number(inputs.len() as u64)?;
     for input in inputs {
-        let id = id_of_input(hash, tx, input, text)?;
-        body.raw(&id)?;
+        let ids = ids_of_input(hash, tx, input, text)?;
+        body.raw(&ids.entry)?;
         put_value(input, body)?;
-        ids.push(id)?;
+        lists.push(ids)?;
     }
     Ok(entry_id(hash, b"mux1", body.as_slice()))
 }
@@ -156,52 +218,48 @@ fn put_units(asset: &Id, amount: u64, body: &mut Writer) -> Result<(), NoMemory>
     body.number(amount)
 }
 
-// Adds the ids of the outputs and retirements, which came from this mux, and gives that of the transaction.
-fn add_results<H: IdHash>(
-    hash: &H,
-    tx: &Tx,
-    mux: &Id,
-    ids: &mut Ids,
-    body: &mut Writer,
-    text: &mut Writer,
-) -> Result<Id, NoMemory>
-    requires tx { IsTx tx.now }
-    requires mux { mux.now ≡ mux_id (H.hash_of hash.now) tx.now }
-    requires none { ids.old ≡ [] }
-    ensures ids { OnOk result (ids.new ≡ result_ids (H.hash_of hash.now) tx.now) }
-    ensures tx { IfOk result (λ id. id ≡ tx_id (H.hash_of hash.now) tx.now) }
-{
-    put_results(hash, tx, mux, ids, body, text)?;
-    body.raw(&hash.hash(tx.refdata.as_slice()))?;
-    body.number(tx.mintime)?;
-    body.number(tx.maxtime)?;
-    Ok(entry_id(hash, b"txheader", body.as_slice()))
-}
-
-// Writes the front of a transaction's body, and adds the ids of its outputs and retirements, which stand in it.
+// Writes the front of a transaction's body, and adds what is formed for the outputs and retirements, whose ids stand in
+// it.
 fn put_results<H: IdHash>(
     hash: &H,
     tx: &Tx,
     mux: &Id,
-    ids: &mut Ids,
+    lists: &mut ResultLists,
     body: &mut Writer,
     text: &mut Writer,
 ) -> Result<(), NoMemory>
     requires tx { IsTx tx.now }
-    requires none { ids.old ≡ [] }
-    ensures ids { OnOk result (ids.new ≡ results_of (H.hash_of hash.now) mux.now tx.now.outputs) }
+    requires no_entries { lists.old.entries ≡ [] }
+    requires no_hashes { lists.old.data_hashes ≡ [] }
+    ensures entries { OnOk result
+        (lists.new.entries ≡ results_of (H.hash_of hash.now) mux.now tx.now.outputs) }
+    ensures data_hashes { OnOk result
+        (lists.new.data_hashes ≡ map (result_data (H.hash_of hash.now)) tx.now.outputs) }
     ensures body { let ids = results_of (H.hash_of hash.now) mux.now tx.now.outputs in
         OnOk result (body.new ≡ varint tx.now.version ++ varint (length tx.now.outputs) ++ concat ids) }
 {
     let outputs = tx.outputs.as_slice();
-    ids.reserve(outputs.len())?;
     body.clear();
     body.number(tx.version)?;
     body.number(outputs.len() as u64)?;
     for (position, output) in outputs.iter().enumerate() {
-        let id = id_of_result(hash, mux, position as u64, output, text)?;
-        body.raw(&id)?;
-        ids.push(id)?;
+        let ids = ids_of_result(hash, mux, position as u64, output, text)?;
+        body.raw(&ids.entry)?;
+        lists.push(ids)?;
     }
     Ok(())
+}
+
+// Ends a transaction's body behind the ids of its outputs and retirements, and gives the transaction's id.
+fn end<H: IdHash>(hash: &H, tx: &Tx, data_hash: &Id, body: &mut Writer) -> Result<Id, NoMemory>
+    requires tx { IsTx tx.now }
+    requires data_hash { data_hash.now ≡ H.hash_of hash.now tx.now.refdata }
+    requires front { let ids = result_ids (H.hash_of hash.now) tx.now in
+        body.old ≡ varint tx.now.version ++ varint (length tx.now.outputs) ++ concat ids }
+    ensures { IfOk result (λ id. id ≡ tx_id (H.hash_of hash.now) tx.now) }
+{
+    body.raw(data_hash)?;
+    body.number(tx.mintime)?;
+    body.number(tx.maxtime)?;
+    Ok(entry_id(hash, b"txheader", body.as_slice()))
 }

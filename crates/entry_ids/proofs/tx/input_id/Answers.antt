@@ -1,15 +1,15 @@
-use Rattle.entry_ids.specs.Ids.{input_id, input_ids}
-use Rattle.entry_ids.proofs.Elements.{is_input, mapped_at, found_at}
+use Rattle.std.proofs.Common.{◌∙◌, List, ℕ, Some, sym, ap}
+use Rattle.entry_ids.specs.Ids.{input_id}
+use Rattle.entry_ids.proofs.Elements.{is_input, mapped_at}
 use Rattle.entry_ids.proofs.tx.input_id.Goals as goal
 
-pub id_of_input-requires-clause-input : goal.id_of_input-requires-clause-input
-id_of_input-requires-clause-input g c =
+pub ids_of_input-requires-clause-input : goal.ids_of_input-requires-clause-input
+ids_of_input-requires-clause-input g c =
     is_input c.args.tx.now c.args.k c.index-as_slice-k.result c.requires.tx (record { there = c.requires.there; is = rw c.as_slice.ensures at c.index-as_slice-k.is })
 
 pub returns : goal.returns
 returns g c =
     let hash = g.H.IdHash.hash_of c.args.hash.now in
     let tx = c.args.tx.now in
-    found_at (input_ids hash tx) c.args.k _ c.id_of_input.result
-    (mapped_at (input_id hash tx) tx.inputs c.args.k c.index-as_slice-k.result (record { there = c.requires.there; is = rw c.as_slice.ensures at c.index-as_slice-k.is }))
-    c.id_of_input.ensures
+    mapped_at (input_id hash tx) tx.inputs c.args.k c.index-as_slice-k.result (record { there = c.requires.there; is = rw c.as_slice.ensures at c.index-as_slice-k.is })
+    ∙ ap (λ (id : List ℕ). Some id) (sym c.in_ok-ids.ensures.entry)
