@@ -1,0 +1,4 @@
+pub mod FirstPlaces
+pub mod Limits
+pub mod Named
+pub mod Verdicts
