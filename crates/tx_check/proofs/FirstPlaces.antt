@@ -1,15 +1,28 @@
 -- The first place of a list at which a line holds, found one place after the other.
-use Rattle.std.proofs.Common.{◌≡◌, ℕ, zero, suc, ◌+◌, ◌<◌, ◌≤◌, List, [], ◌∷◌, ◌++◌, length, get_or, Option, Some, None, refl, sym, ◌∙◌, ap, subst, inl, inr, arith}
-use Rattle.std.specs.Prelude.{◌⊎◌, slice_get}
+use Rattle.std.proofs.Common.{◌≡◌, ℕ, zero, suc, ◌+◌, ◌<◌, ◌≤◌, false, List, [], ◌∷◌, ◌++◌, length, get_or, Option, Some, None, refl, sym, ◌∙◌, ap, subst, inl, inr, arith}
+use Rattle.std.specs.Prelude.{◌⊎◌, IsTrue, slice_get}
 use Rattle.std.proofs.lemmas.Option.{slice_get_within, slice_get_read}
 use Rattle.std.proofs.lemmas.Bool.{cases_lt}
 use Rattle.wire.specs.Tables.{Line, HoldsNot, IsLine, First}
 use Rattle.tx_check.specs.FirstPlace.{AtFirst, Found}
 
+-- a test that failed did not pass
+pub failed : IsTrue false → ⊥
+failed e = cc
+
 -- this stands at that place of the list
 pub record StandsAt {X : Type 0} (xs : List X) (i : ℕ) (x : X) : Type 0 where
   pub there : i < length xs
   pub is : x ≡ get_or xs i x
+
+read_from : {X : Type 0} (xs : List X) (i : ℕ) (d : X) → i < length xs → get_or xs i d ≡ get_or xs i (get_or xs i d)
+read_from [] i d l = absurd (omega (arith, l))
+read_from (x ∷ xs) zero d l = refl
+read_from (x ∷ xs) (suc i) d l = read_from xs i d (omega (arith, l))
+
+-- what is read at a place within
+pub read_at : {X : Type 0} (xs : List X) (i : ℕ) (d : X) → i < length xs → StandsAt xs i (get_or xs i d)
+read_at xs i d l = record { there = l; is = read_from xs i d l }
 
 pub got : {X : Type 0} (xs : List X) (i : ℕ) (x : X) → StandsAt xs i x → slice_get xs i ≡ Some x
 got xs i x s = slice_get_read xs (length xs) i x refl s.there s.is
@@ -28,33 +41,47 @@ module _ {R X : Type 0} (line : ℕ → X → Line R) (xs : List X) where
   pub none_at_start : NoneBelow 0
   none_at_start k other l e = absurd (omega (arith, l))
 
-  next_place : (k i : ℕ) (other x : X) → NoneBelow i → StandsAt xs i x → HoldsNot (line i x) → slice_get xs k ≡ Some other → (k < i) ⊎ (i ≡ k) → HoldsNot (line k other)
-  next_place k i other x none s not e (inl less) = none k other less e
-  next_place k i other x none s not e (inr same) =
-      let there : slice_get xs i ≡ Some other = ap (slice_get xs) same ∙ e in
-      subst (λ (n : ℕ). HoldsNot (line n other)) same (subst (λ (y : X). HoldsNot (line i y)) (sym (one_there xs i x other (got xs i x s) there)) not)
+  next_place : (k i : ℕ) (other x : X) → NoneBelow i → slice_get xs i ≡ Some x → HoldsNot (line i x) → slice_get xs k ≡ Some other → (k < i) ⊎ (i ≡ k) → HoldsNot (line k other)
+  next_place k i other x none there not e (inl less) = none k other less e
+  next_place k i other x none there not e (inr same) =
+      let here : slice_get xs i ≡ Some other = ap (slice_get xs) same ∙ e in
+      subst (λ (n : ℕ). HoldsNot (line n other)) same (subst (λ (y : X). HoldsNot (line i y)) (sym (one_there xs i x other there here)) not)
 
-  pub none_more : (i : ℕ) (x : X) → NoneBelow i → StandsAt xs i x → HoldsNot (line i x) → NoneBelow (i + 1)
-  none_more i x none s not k other l e =
-      next_place k i other x none s not e (elim (cases_lt k i) [
+  pub none_more_at : (i : ℕ) (x : X) → NoneBelow i → slice_get xs i ≡ Some x → HoldsNot (line i x) → NoneBelow (i + 1)
+  none_more_at i x none there not k other l e =
+      next_place k i other x none there not e (elim (cases_lt k i) [
         | inl less ↦ inl less
         | inr le ↦ inr (omega arith)
       ])
 
-  pub found_here : (i : ℕ) (x : X) (told : R) → NoneBelow i → StandsAt xs i x → line i x told → AtFirst line xs told
-  found_here i x told none s h = record {
+  pub none_more : (i : ℕ) (x : X) → NoneBelow i → StandsAt xs i x → HoldsNot (line i x) → NoneBelow (i + 1)
+  none_more i x none s not = none_more_at i x none (got xs i x s) not
+
+  pub found_at : (i : ℕ) (x : X) (told : R) → NoneBelow i → slice_get xs i ≡ Some x → line i x told → AtFirst line xs told
+  found_at i x told none there h = record {
     place = i;
     item = x;
-    there = got xs i x s;
+    there = there;
     tells = h;
     none_before = none;
   }
+
+  pub found_here : (i : ℕ) (x : X) (told : R) → NoneBelow i → StandsAt xs i x → line i x told → AtFirst line xs told
+  found_here i x told none s h = found_at i x told none (got xs i x s) h
 
   pub nowhere : (n : ℕ) → length xs ≤ n → NoneBelow n → HoldsNot (AtFirst line xs)
   nowhere n past none told first =
       let within : first.place < length xs = slice_get_within xs first.place first.item first.there in
       let below : first.place < n = omega arith in
       none first.place first.item below first.there told first.tells
+
+-- the same by the slice that a loop walks along
+module _ {R X : Type 0} (line : ℕ → X → Line R) (xs slice : List X) (same : slice ≡ xs) where
+  pub found_along : (i : ℕ) (x : X) (told : R) → NoneBelow line slice i → StandsAt slice i x → line i x told → AtFirst line xs told
+  found_along i x told none s h = subst (λ (zs : List X). AtFirst line zs told) same (found_here line slice i x told none s h)
+
+  pub nowhere_along : (n : ℕ) → length slice ≤ n → NoneBelow line slice n → HoldsNot (AtFirst line xs)
+  nowhere_along n past none = subst (λ (zs : List X). HoldsNot (AtFirst line zs)) same (nowhere line slice n past none)
 
 -- ---- first places are lines
 
@@ -179,3 +206,20 @@ first_found line (Some told) h = inl h
 pub first_or : {R : Type 0} (line : Line R) (lines : List (Line R)) (answer : Option R) → HoldsNot line → First lines answer → First (line ∷ lines) answer
 first_or line lines None not h = (not, h)
 first_or line lines (Some told) not h = inr (not, h)
+
+-- ---- what holds everywhere where the line holds nowhere
+
+abbrev pub Everywhere : {R X : Type 0} → (ℕ → X → Line R) → List X → Type 0
+Everywhere {R} {X} line xs = (k : ℕ) (x : X) → slice_get xs k ≡ Some x → HoldsNot (line k x)
+
+not_first : {R X : Type 0} (line : ℕ → X → Line R) (y : X) (xs : List X) → HoldsNot (AtFirst line (y ∷ xs)) → HoldsNot (line 0 y)
+not_first line y xs none told h = none told (first_of_head line y xs told h)
+
+not_after : {R X : Type 0} (line : ℕ → X → Line R) (y : X) (xs : List X) → HoldsNot (AtFirst line (y ∷ xs)) → HoldsNot (AtFirst (λ k. line (suc k)) xs)
+not_after line y xs none told first = none told (first_of_tail line y xs (not_first line y xs none) told first)
+
+pub everywhere : {R X : Type 0} (line : ℕ → X → Line R) (xs : List X) → HoldsNot (AtFirst line xs) → (k : ℕ) (x : X) → slice_get xs k ≡ Some x → HoldsNot (line k x)
+everywhere line [] none k x e = absurd (nothing_there k x e)
+everywhere {R} {X} line (y ∷ xs) none zero x e =
+    subst (λ (z : X). HoldsNot (line 0 z)) (same_some (Some y) x y e refl) (not_first line y xs none)
+everywhere line (y ∷ xs) none (suc k) x e = everywhere (λ n. line (suc n)) xs (not_after line y xs none) k x e

@@ -1,4 +1,13 @@
+pub mod Decisions
+pub mod Everywhere
+pub mod Facts
+pub mod Failing
 pub mod FirstPlaces
+pub mod Groups
 pub mod Limits
 pub mod Named
+pub mod Results
+pub mod Sums
+pub mod Table
+pub mod Valid
 pub mod Verdicts

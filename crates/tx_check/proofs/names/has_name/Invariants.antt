@@ -1,0 +1,6 @@
+use Rattle.std.proofs.Common.{◌≡◌}
+use Rattle.tx_check.proofs.Everywhere.{NotBelow}
+use Rattle.tx_check.proofs.names.has_name.Given as goal
+
+abbrev pub invariant-loop-other : goal.invariant-loop-other
+invariant-loop-other l = NotBelow (λ other. other ≡ l.name) l.named l.other-index

@@ -1,0 +1,21 @@
+use Rattle.std.proofs.Common.{refl}
+use Rattle.tx_check.specs.Table.{TellsApart}
+use Rattle.tx_check.proofs.FirstPlaces.{failed}
+use Rattle.tx_check.proofs.Everywhere.{not_more, not_along, got_along}
+use Rattle.tx_check.proofs.names.not_told_apart.Goals as goal
+
+pub returns-then-tells_apart : goal.returns-then-tells_apart
+returns-then-tells_apart c =
+    λ told h. h.0 c.loop-input.input-index c.input-item.result
+    (got_along c.as_slice-inputs.ensures (record { there = c.loop-input-test.true; is = c.input-item.is }))
+    (c.if-tells_apart.ensures.0 refl)
+
+pub loop-input-preserved : goal.loop-input-preserved
+loop-input-preserved c =
+    not_more TellsApart _ c.loop-input.input-index c.input-item.result c.loop-input.invariant
+    (record { there = c.loop-input-test.true; is = c.input-item.is })
+    (λ h. failed (c.if-tells_apart.ensures.1 h))
+
+pub returns : goal.returns
+returns c =
+    (not_along TellsApart c.as_slice-inputs.ensures c.loop-input.input-index c.loop-input-test.false c.loop-input.invariant, refl)
