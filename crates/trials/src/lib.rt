@@ -15,6 +15,8 @@ mod ledger_core_calls;
 mod outside_calls;
 pub mod page;
 #[cfg(test)]
+mod shown;
+#[cfg(test)]
 mod signatures;
 #[cfg(test)]
 mod transaction_ids;
@@ -22,6 +24,14 @@ mod transaction_ids;
 mod transaction_programs;
 #[cfg(test)]
 mod transactions;
+#[cfg(test)]
+mod validity;
+#[cfg(test)]
+mod validity_alone;
+#[cfg(test)]
+mod validity_clash;
+#[cfg(test)]
+mod validity_pairs;
 #[cfg(test)]
 mod vm_code_calls;
 #[cfg(test)]
