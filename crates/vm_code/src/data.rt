@@ -1,5 +1,5 @@
 // What stands behind a code: the bytes that a data code pushes, or the place that a jump leads to.
-ghost use Rattle.std.specs.Prelude.{◌≡◌, ◌<◌, ◌≤◌, ◌^◌, ◌+◌, length, IfOk};
+ghost use Rattle.std.specs.Prelude.{◌≡◌, ◌<◌, ◌≤◌, ◌^◌, ◌+◌, [], ◌∷◌, length, IfOk};
 ghost use Rattle.vm_code.specs.Instruction.{data_at, counted_at, jump_at, little_endian};
 ghost use Rattle.vm_code.specs.Seen.{Reads};
 
@@ -49,15 +49,23 @@ pub fn jump(code: u8, behind: &[u8]) -> Result<Instruction<'_>, CodeFault>
     ensures within { IfOk result (λ i. (0 < i.len) × (i.len ≤ 1 + length behind.now)) }
     ensures target { IfOk result (λ i. i.target < 2 ^ 32) }
 {
-    if behind.len() < 4 {
-        return Err(CodeFault::Short);
+    match behind {
+        [a, b, c, d, ..] => Ok(Instruction {
+            code,
+            pushed: &[],
+            target: place(*a, *b, *c, *d),
+            len: 5,
+        }),
+        _ => Err(CodeFault::Short),
     }
-    Ok(Instruction {
-        code,
-        pushed: &[],
-        target: low_first(&behind[..4]),
-        len: 5,
-    })
+}
+
+// The place that four bytes say, the lowest first.
+fn place(a: u8, b: u8, c: u8, d: u8) -> u32
+    ensures value { result ≡ little_endian (a ∷ b ∷ c ∷ d ∷ []) }
+    ensures bound { result < 2 ^ 32 }
+{
+    a as u32 + 256 * (b as u32 + 256 * (c as u32 + 256 * d as u32))
 }
 
 fn low_first(bytes: &[u8]) -> u32

@@ -283,7 +283,7 @@ module _ (P : Option ℕ → Type 0) (none : P None) where
   calling below (pos count) program (negsuc n) = tt
   calling below (negsuc n) program asked = tt
 
-  predicate : FairRule calls
+  pub predicate : FairRule calls
   predicate items alt =
       triple _ (λ count program asked.
       numbered _ (λ n. numbered _ (calling (drop 3 items) n program) (num asked)) (num count)) items alt

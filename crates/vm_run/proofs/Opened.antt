@@ -5,12 +5,11 @@ use Rattle.vm_num.specs.Item.{Item}
 use Rattle.vm_code.specs.Instruction.{Decoded}
 use Rattle.vm_stack.specs.Stacks.{Stacks, item_at, held_cost}
 use Rattle.vm_run.specs.declared.machine.Machine.{Machine}
-use Rattle.vm_run.specs.declared.step.Done.TheVariants.{Opened}
 use Rattle.vm_run.specs.Effect.{Context, Check, Calls}
 use Rattle.vm_run.specs.Making.{calls, other_rule}
 use Rattle.vm_run.specs.Row.{rule}
 use Rattle.vm_run.specs.Run.{Opens, row_move, child_limit}
-use Rattle.vm_run.specs.Follows.{LeadsBy}
+use Rattle.vm_run.specs.Follows.{IsOpened, call_move}
 use Rattle.vm_run.proofs.Payment.{opening}
 
 -- the line of CHECKPREDICATE
@@ -22,7 +21,7 @@ alike : {program program' : List ℕ} {items items' : List Item} {limit limit' :
 alike p i l a d n = rw (p, i, l, a, d, n) refl
 
 -- a machine whose three items and the counted ones were split off
-pub opens : (m m' : Machine) (child popped : Stacks) (count asked limit : ℕ) → calls m.stack.items m.stack.alt ≡ Calls (item_at 1 m.stack.items) asked count → 3 + count ≤ length m.stack.items → 256 ≤ m.left → asked ≤ m.left - 256 → limit ≡ child_limit asked (m.left - 256) → popped ≡ record { items = take 3 m.stack.items; alt = [] } → child ≡ record { items = take count (drop 3 m.stack.items); alt = [] } → m'.stack ≡ record m.stack { items = drop count (drop 3 m.stack.items) } → m'.at ≡ m.at → m'.left ≡ m.left - 256 - limit + 192 + held_cost popped → LeadsBy m (calls m.stack.items m.stack.alt) (Ok (Opened (record { stack = child; left = limit; at = 0 }) popped)) m'
+pub opens : (m m' : Machine) (child popped : Stacks) (count asked limit : ℕ) → calls m.stack.items m.stack.alt ≡ Calls (item_at 1 m.stack.items) asked count → 3 + count ≤ length m.stack.items → 256 ≤ m.left → asked ≤ m.left - 256 → limit ≡ child_limit asked (m.left - 256) → popped ≡ record { items = take 3 m.stack.items; alt = [] } → child ≡ record { items = take count (drop 3 m.stack.items); alt = [] } → m'.stack ≡ record m.stack { items = drop count (drop 3 m.stack.items) } → m'.at ≡ m.at → m'.left ≡ m.left - 256 - limit + 192 + held_cost popped → IsOpened (call_move m) (Ok (record { child = record { stack = child; left = limit; at = 0 }; popped = popped })) m'
 opens m m' child popped count asked limit line there covers enough given top moved stack place left =
     let three : length (take 3 m.stack.items) ≡ 3 = simp length-take (omega arith) in
     let long : length popped.items ≡ length (take 3 m.stack.items) = ap (λ (s : Stacks). length s.items) top in

@@ -12,14 +12,12 @@ use Rattle.vm_run.specs.Stretch.{State, RunIn, Completes, alone, with_child, Ste
 use Rattle.vm_run.specs.Laws.{held}
 use Rattle.vm_ops.specs.Line.{truth_item}
 use Rattle.vm_run.specs.Verdict.{RunOn}
-use Rattle.vm_run.specs.Follows.{Leads, held_in}
-use Rattle.vm_run.specs.declared.step.Done.{Done}
-use Rattle.vm_run.specs.declared.step.Done.TheVariants.{Moved, Opened}
+use Rattle.vm_run.specs.Making.{calls}
+use Rattle.vm_run.specs.Follows.{IsOpened, call_move}
+use Rattle.vm_run.specs.declared.predicate.Opened.{Opened}
 use Rattle.vm_run.specs.declared.machine.Machine.{Machine}
-use Rattle.vm_run.specs.declared.fault.StepFault.{StepFault}
-use Rattle.vm_stack.specs.Stacks.{Stacks, held_cost}
-use Rattle.std.specs.Prelude.{OnOk, IfOk}
-use Rattle.vm_run.proofs.Fair.{Within, Fair, row-fair}
+use Rattle.vm_stack.specs.Stacks.{held_cost}
+use Rattle.vm_run.proofs.Fair.{Within, Fair, row-fair, predicate}
 use Rattle.vm_run.proofs.Payment.{short_of_base, short_of_price, covered, cost-split, child_limit-within, short_of_opening, short_of_asked, opening}
 
 -- ---- the move at a place, by the instruction that is read there
@@ -220,27 +218,19 @@ cost-reverse items = sum_by-IsPermutation cost items (reverse items) (IsPermutat
 pub bounded : (context : Context) (check : Check) (program : List ℕ) (args : List Item) (limit : ℕ) (outcome : Outcome) → total_cost args ≤ limit → RunOn context check program args limit outcome → count_of outcome ≤ limit
 bounded context check program args limit outcome covers run = let turned = cost-reverse args in omega (arith, count-bound run)
 
--- ---- what the code shows of a move
+-- ---- a child that the code opened
 
-module _ (context : Context) (check : Check) (program : List ℕ) (place : ℕ) (items alt : List Item) (left : ℕ) where
-  abbrev Shown : Result Done StepFault → Machine → Type 0
-  Shown result m = Leads (move context check program place items alt left) result m
+module _ (m : Machine) where
+  kept : (at : Move) → call_move m ≡ at → Keeps m.at m.stack.items m.stack.alt m.left at
+  kept at is =
+      subst (Keeps m.at m.stack.items m.stack.alt m.left) is
+      (row-keeps m.at m.at m.stack.items m.stack.alt m.left (calls m.stack.items m.stack.alt) (omega arith) (predicate (Within m.at) tt m.stack.items m.stack.alt))
 
-  shown-keeps : (m : Machine) (at : Move) → move context check program place items alt left ≡ at → Keeps (length program) items alt left at
-  shown-keeps m at is = subst (Keeps (length program) items alt left) is (move-keeps context check program place items alt left)
-
-  pub falls : (result : Result Done StepFault) (m : Machine) → Shown result m → IfOk result (λ done. m.left + held_cost m.stack + held_in done < left + (total_cost items + total_cost alt))
-  falls (Ok Moved) m shows = let keeps = shown-keeps m _ shows in omega (arith, keeps.0, keeps.1)
-  falls (Ok (Opened child popped)) m shows =
-      let keeps = shown-keeps m _ shows.3 in
-      let no_alt = ap total_cost shows.2 in
+  pub falls : (o : Opened) (m' : Machine) → IsOpened (call_move m) (Ok o) m' → m'.left + held_cost m'.stack + (o.child.left + held_cost o.child.stack) < m.left + held_cost m.stack
+  falls o m' opened =
+      let keeps = kept _ opened.3 in
+      let no_alt = ap total_cost opened.2 in
       omega (arith, keeps.0)
-  falls (Err fault) m shows = tt
 
-  pub repaid : (child : Machine) (popped : Stacks) (m : Machine) → Shown (Ok (Opened child popped)) m → 192 ≤ m.left
-  repaid child popped m shows = (shown-keeps m _ shows.3).1
-
-  pub inside : (result : Result Done StepFault) (m : Machine) → Shown result m → OnOk result (m.at ≤ length program)
-  inside (Ok Moved) m shows = (shown-keeps m _ shows).2
-  inside (Ok (Opened child popped)) m shows = (shown-keeps m _ shows.3).2
-  inside (Err fault) m shows = tt
+  pub repaid : (o : Opened) (m' : Machine) → IsOpened (call_move m) (Ok o) m' → 192 ≤ m'.left
+  repaid o m' opened = (kept _ opened.3).1

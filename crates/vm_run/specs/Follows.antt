@@ -4,12 +4,14 @@ use Rattle.vm_num.specs.Item.{Item, cost, total_cost}
 use Rattle.vm_num.specs.declared.failure.Failure.TheVariants.{RunLimit}
 use Rattle.vm_ops.specs.Line.{Line}
 use Rattle.vm_ops.specs.Bytes.{bytes_base}
-use Rattle.vm_stack.specs.Stacks.{item_at, held_cost}
+use Rattle.vm_stack.specs.Stacks.{Stacks, item_at}
 use Rattle.vm_run.specs.declared.machine.Machine.{Machine}
+use Rattle.vm_run.specs.declared.predicate.Opened.{Opened}
 use Rattle.vm_run.specs.declared.step.Done.{Done}
-use Rattle.vm_run.specs.declared.step.Done.TheVariants.{Moved, Opened}
+use Rattle.vm_run.specs.declared.step.Done.TheVariants.{Moved, Called}
 use Rattle.vm_run.specs.declared.fault.StepFault.{StepFault}
 use Rattle.vm_run.specs.declared.fault.StepFault.TheVariants.{Failed, NoMemory}
+use Rattle.vm_run.specs.Making.{calls}
 use Rattle.vm_run.specs.Row.{Row}
 use Rattle.vm_run.specs.Run.{Move, Stops, Goes, Opens, row_move}
 use Rattle.vm_run.specs.Stretch.{State}
@@ -29,16 +31,28 @@ Shows move (Ok done) m = move ≡ Goes m.at m.stack.items m.stack.alt m.left (ba
 Shows move (Err (Failed kind)) m = move ≡ Stops kind
 Shows move (Err NoMemory) m = Unit {0}
 
--- the same of a step, which may open a child; the program is the second of the items that were popped for it
-abbrev pub Leads : Move → Result Done StepFault → Machine → Type 0
-Leads move (Ok Moved) m = Shows move (Ok tt) m
-Leads move (Ok (Opened child popped)) m =
-    (1 < length popped.items)
-    × (child.at ≡ 0)
-    × (child.stack.alt ≡ [])
-    × (move ≡ Opens (record { program = item_at 1 popped.items; items = child.stack.items; limit = child.left }) m.at
+-- what CHECKPREDICATE comes to on a machine that stands behind it
+abbrev pub call_move : Machine → Move
+call_move m = row_move m.at m.stack.items m.stack.alt m.left (calls m.stack.items m.stack.alt)
+
+-- The same of a step from these stacks and this limit. A step that came to CHECKPREDICATE has only moved the machine
+-- behind it; what the instruction comes to is still to be done there.
+abbrev pub Leads : Stacks → ℕ → Move → Result Done StepFault → Machine → Type 0
+Leads stack left move (Ok Moved) m = Shows move (Ok tt) m
+Leads stack left move (Ok Called) m = (m.stack ≡ stack) × (m.left ≡ left) × (move ≡ call_move m)
+Leads stack left move (Err fault) m = Shows move (Err fault) m
+
+-- What CHECKPREDICATE comes to is the child that was opened, at its start and with an empty alt stack, with the machine
+-- as it was left. The child's program is the second of the items that were popped for it.
+abbrev pub IsOpened : Move → Result Opened StepFault → Machine → Type 0
+IsOpened move (Ok o) m =
+    (1 < length o.popped.items)
+    × (o.child.at ≡ 0)
+    × (o.child.stack.alt ≡ [])
+    × (move
+    ≡ Opens (record { program = item_at 1 o.popped.items; items = o.child.stack.items; limit = o.child.left }) m.at
     m.stack.items m.stack.alt m.left)
-Leads move (Err fault) m = Shows move (Err fault) m
+IsOpened move (Err fault) m = Shows move (Err fault) m
 
 -- so is a row, on the stacks and the limit of a machine that stands behind its instruction
 abbrev pub Follows : Machine → Row → Result (Unit {0}) StepFault → Machine → Type 0
@@ -81,9 +95,4 @@ Makes code a b line (Err NoMemory) item = Unit {0}
 -- the same of a row, on the stacks and the limit of a machine that stands behind its instruction
 abbrev pub LeadsBy : Machine → Row → Result Done StepFault → Machine → Type 0
 LeadsBy before row result after =
-    Leads (row_move before.at before.stack.items before.stack.alt before.left row) result after
-
--- what the child of a step holds
-abbrev pub held_in : Done → ℕ
-held_in Moved = 0
-held_in (Opened child popped) = child.left + held_cost child.stack
+    Leads before.stack before.left (row_move before.at before.stack.items before.stack.alt before.left row) result after

@@ -51,8 +51,8 @@ impl Machine {
             self.new }
     {
         match i.code {
-            NOP => self.pop(0, 1),
-            JUMP => self.jump(0, i.target as u64, size),
+            NOP => self.pay(1),
+            JUMP => self.jump(i.target as u64, size),
             JUMPIF => self.jump_if(i.target as u64, size),
             VERIFY => self.verify(),
             FAIL => Err(StepFault::Failed(Failure::FailCode)),
@@ -62,16 +62,13 @@ impl Machine {
         }
     }
 
-    // Pops n items and goes on at a place.
-    fn jump(&mut self, n: u64, place: u64, size: u64) -> Result<(), StepFault>
-        requires there { n ≤ length self.old.stack.items }
-        requires small { self.old.left + held_cost self.old.stack < 2 ^ 63 }
-        ensures { Follows self.old (jump_row n place size) result self.new }
+    fn jump(&mut self, place: u64, size: u64) -> Result<(), StepFault>
+        ensures { Follows self.old (jump_row 0 place size) result self.new }
     {
         if size < place {
             return Err(StepFault::Failed(Failure::BadJump));
         }
-        match self.pop(n, 1) {
+        match self.pay(1) {
             Ok(()) => {
                 self.at = place;
                 Ok(())
@@ -87,9 +84,27 @@ impl Machine {
     {
         let jumps = truth(one(&self.stack)?);
         if jumps {
-            self.jump(1, place, size)
+            self.pop_and_jump(place, size)
         } else {
             self.pop(1, 1)
+        }
+    }
+
+    // Pops an item and goes on at a place.
+    fn pop_and_jump(&mut self, place: u64, size: u64) -> Result<(), StepFault>
+        requires there { 1 ≤ length self.old.stack.items }
+        requires small { self.old.left + held_cost self.old.stack < 2 ^ 63 }
+        ensures { Follows self.old (jump_row 1 place size) result self.new }
+    {
+        if size < place {
+            return Err(StepFault::Failed(Failure::BadJump));
+        }
+        match self.pop(1, 1) {
+            Ok(()) => {
+                self.at = place;
+                Ok(())
+            }
+            Err(fault) => Err(fault),
         }
     }
 

@@ -19,6 +19,17 @@ pub struct Machine {
 }
 
 impl Machine {
+    /// Pays a base cost.
+    pub fn pay(&mut self, base: u64) -> Result<(), StepFault>
+        ensures { Follows self.old (does 0 [] base) result self.new }
+    {
+        if self.left < base {
+            return Err(StepFault::Failed(Failure::RunLimit));
+        }
+        self.left -= base;
+        Ok(())
+    }
+
     /// Pays a base cost and pops n items.
     pub fn pop(&mut self, n: u64, base: u64) -> Result<(), StepFault>
         requires there { n ≤ length self.old.stack.items }

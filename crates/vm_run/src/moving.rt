@@ -134,7 +134,7 @@ impl Machine {
         if copies {
             self.copies(0, 1, 1)
         } else {
-            self.pop(0, 1)
+            self.pay(1)
         }
     }
 

@@ -2,23 +2,36 @@
 ghost use Rattle.std.specs.Prelude.{◌≡◌, ◌<◌, ◌≤◌, ◌+◌, ◌^◌, IfOk};
 ghost use Rattle.vm_stack.specs.Stacks.{held_cost};
 ghost use Rattle.vm_run.specs.Ends.{Closed, given_by, good_end};
-ghost use Rattle.vm_run.specs.Follows.{LeadsBy};
-ghost use Rattle.vm_run.specs.Making.{calls};
+ghost use Rattle.vm_run.specs.Follows.{IsOpened, call_move};
 
 use crate::machine::Machine;
 use crate::numbers::truth_bytes;
 use crate::operands::{called, top_is_true};
 use crate::run::End;
-use crate::step::Done;
 use crate::{NoMemory, StepFault};
 use vm_num::Failure;
+use vm_stack::Stack;
+
+/// A child at its start, on the program that is the second of the items that were popped for it.
+#[derive(Drop)]
+pub struct Opened {
+    pub child: Machine,
+    pub popped: Stack,
+}
 
 impl Machine {
     /// The line of CHECKPREDICATE: takes its three items and those that it counts off the stack, and the child's limit
     /// from what is left.
-    pub fn open(&mut self) -> Result<Done, StepFault>
+    pub fn open(&mut self) -> Result<Opened, StepFault>
         requires small { self.old.left + held_cost self.old.stack < 2 ^ 63 }
-        ensures { LeadsBy self.old (calls self.old.stack.items self.old.stack.alt) result self.new }
+        ensures opened { IsOpened (call_move self.old) result self.new }
+
+        // What is left and what is held fall together, those of the child counted.
+        ensures falls { IfOk result (λ o. self.new.left + held_cost self.new.stack + (o.child.left + held_cost
+            o.child.stack) < self.old.left + held_cost self.old.stack) }
+
+        // What comes back at once covers the item of a result.
+        ensures repaid { IfOk result (λ o. 192 ≤ self.new.left) }
     {
         let (count, asked) = called(&self.stack)?;
         if self.left < 256 || self.left - 256 < asked {
@@ -40,7 +53,7 @@ impl Machine {
             left: limit,
             at: 0,
         };
-        Ok(Done::Opened { child, popped })
+        Ok(Opened { child, popped })
     }
 
     /// Takes back what a good child has when it has run, and pushes whether it was good. What came back for the opening

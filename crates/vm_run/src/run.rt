@@ -5,6 +5,7 @@ ghost use Rattle.vm_run.specs.Ends.{Ends};
 ghost use Rattle.vm_run.specs.Row.{NumbersFit};
 
 use crate::machine::Machine;
+use crate::predicate::Opened;
 use crate::step::Done;
 use crate::{Context, NoMemory, StepFault};
 use keyed::{Pile, SigCheck};
@@ -37,13 +38,17 @@ pub fn run<C: SigCheck>(
         let at = machine.at;
         match machine.step(ctx, sigs, program, scratch) {
             Ok(Done::Moved) => {}
-            Ok(Done::Opened { mut child, popped }) => {
-                let Some(called) = popped.item(1) else {
-                    unreachable!()
-                };
-                let end = run(&mut child, ctx, sigs, called, scratch)?;
-                machine.close(&child, end)?;
-            }
+            Ok(Done::Called) => match machine.open() {
+                Ok(Opened { mut child, popped }) => {
+                    let Some(called) = popped.item(1) else {
+                        unreachable!()
+                    };
+                    let end = run(&mut child, ctx, sigs, called, scratch)?;
+                    machine.close(&child, end)?;
+                }
+                Err(StepFault::Failed(kind)) => return Ok(End::Failed { kind, at }),
+                Err(StepFault::NoMemory) => return Err(NoMemory),
+            },
             Err(StepFault::Failed(kind)) => return Ok(End::Failed { kind, at }),
             Err(StepFault::NoMemory) => return Err(NoMemory),
         }

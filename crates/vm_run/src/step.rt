@@ -1,8 +1,8 @@
 // One step of a run.
-ghost use Rattle.std.specs.Prelude.{◌≡◌, ◌≢◌, ◌<◌, ◌≤◌, ◌+◌, ◌^◌, length, OnOk, IfOk};
+ghost use Rattle.std.specs.Prelude.{◌≢◌, ◌<◌, ◌+◌, ◌^◌, length};
 ghost use Rattle.vm_code.specs.Seen.{seen};
 ghost use Rattle.vm_stack.specs.Stacks.{held_cost};
-ghost use Rattle.vm_run.specs.Follows.{Follows, Leads, LeadsBy, held_in};
+ghost use Rattle.vm_run.specs.Follows.{Follows, Leads, LeadsBy};
 ghost use Rattle.vm_run.specs.Row.{NumbersFit, rule};
 ghost use Rattle.vm_run.specs.Run.{move};
 
@@ -12,19 +12,21 @@ use keyed::SigCheck;
 use vm_code::codes::{ADD_ONE, CATPUSHDATA, CHECKPREDICATE, FROMALTSTACK, SIXTEEN, TUCK, WITHIN};
 use vm_code::{CodeFault, Instruction, next};
 use vm_num::Failure;
-use vm_stack::Stack;
 
 /// What a step came to.
-#[derive(Drop)]
+#[derive(Clone, Copy)]
 pub enum Done {
     /// The instruction is complete.
     Moved,
-    /// It is once this child has run, on the program that is the second of the items that were popped for it.
-    Opened { child: Machine, popped: Stack },
+    /// It is CHECKPREDICATE, and complete once its child has run. The machine stands behind it, and is otherwise as it
+    /// was.
+    Called,
 }
 
 impl Machine {
     /// Runs the instruction at the machine's place. `scratch` is used for what it makes.
+    // Inlined: as a call of its own it would have its answer written to memory and read again at each instruction.
+    #[inline(always)]
     pub fn step<C: SigCheck>(
         &mut self,
         ctx: &Context,
@@ -35,13 +37,8 @@ impl Machine {
         requires place { self.old.at < length program.now }
         requires small { self.old.left + held_cost self.old.stack < 2 ^ 63 }
         requires numbers { NumbersFit ctx.now }
-        ensures moves { Leads (move ctx.now (C.good_of sigs.now) program.now self.old.at self.old.stack.items
-            self.old.stack.alt self.old.left) result self.new }
-
-        // What is left and what is held fall together, those of a child counted.
-        ensures falls { IfOk result (λ done. self.new.left + held_cost self.new.stack + held_in done < self.old.left
-            + held_cost self.old.stack) }
-        ensures place { OnOk result (self.new.at ≤ length program.now) }
+        ensures { Leads self.old.stack self.old.left (move ctx.now (C.good_of sigs.now) program.now self.old.at
+            self.old.stack.items self.old.stack.alt self.old.left) result self.new }
     {
         match next(program, self.at) {
             Ok(i) => {
@@ -69,7 +66,7 @@ impl Machine {
             self.old.stack.alt) result self.new }
     {
         if i.code == CHECKPREDICATE {
-            return self.open();
+            return Ok(Done::Called);
         }
         match self.line(ctx, sigs, i, size, scratch) {
             Ok(()) => Ok(Done::Moved),
