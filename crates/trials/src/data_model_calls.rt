@@ -25,15 +25,36 @@ fn block_again(alloc: Global, block: &Block) -> Result<Vec<u8>, NoMemory>
     encode_block(alloc, &block.copy(alloc)?)
 }
 
+// The header of the block, spelled again.
+fn header_again(alloc: Global, block: &Block) -> Result<Vec<u8>, NoMemory>
+    requires { IsBlock block.now }
+{
+    encode_header(alloc, &block.header)
+}
+
+// Whether the block's frame has its length of one byte in front, and is read as one block.
+fn is_framed(alloc: Global, block: &Block) -> bool
+    requires { IsBlock block.now }
+{
+    match frame(alloc, block) {
+        Ok(file) => file.as_slice().first() == Some(&108) && holds_one(alloc, &file),
+        Err(_) => false,
+    }
+}
+
+fn holds_one(alloc: Global, file: &[u8]) -> bool {
+    match read_blocks(alloc, file) {
+        Ok(blocks) => file.len() == 109 && blocks.len() == 1,
+        Err(_) => false,
+    }
+}
+
 #[test]
 fn blocks_again(rt: HostRuntime) -> Result<(), Fail> {
     let block = decode_block(rt.alloc(), BLOCK)?;
     assert!(rt; block_again(rt.alloc(), &block)?.as_slice() == BLOCK.as_slice());
-    assert!(rt; encode_header(rt.alloc(), &block.header)?.as_slice() == &BLOCK[..101]);
-    // behind the length of one byte
-    let file = frame(rt.alloc(), &block)?;
-    assert!(rt; file.len() == 109 && file.as_slice().first() == Some(&108));
-    assert!(rt; read_blocks(rt.alloc(), &file)?.len() == 1);
+    assert!(rt; header_again(rt.alloc(), &block)?.as_slice() == &BLOCK[..101]);
+    assert!(rt; is_framed(rt.alloc(), &block));
     Ok(())
 }
 

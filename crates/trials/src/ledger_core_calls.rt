@@ -3,7 +3,7 @@ ghost use Rattle.data_model.specs.Spelling.{IsHeader};
 
 use data_model::{Block, Header, Txs};
 use keyed::{NoSigs, Sha256Id};
-use ledger_core::Ledger;
+use ledger_core::{Ledger, Tip};
 use std::alloc::Global;
 use std::test::Fail;
 use wire::{Args, Bytes, Id, NoMemory};
@@ -51,13 +51,16 @@ fn is_extended(alloc: Global, first: Block, second: Block) -> bool
     let Ok(added) = ledger.offer(alloc, &Sha256Id, &NoSigs, second) else {
         return false;
     };
-    let tip = ledger.tip();
     added.height == 2
         && added.id == *SECOND
-        && tip.id == *SECOND
+        && is_second(&ledger.tip())
+        && ledger.blocks().len() == 2
+}
+
+fn is_second(tip: &Tip<'_>) -> bool {
+    tip.id == *SECOND
         && (tip.height, tip.time, tip.version) == (2, 2, 1)
         && tip.next_program == b"\x51".as_slice()
-        && ledger.blocks().len() == 2
 }
 
 #[test]

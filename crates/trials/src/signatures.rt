@@ -18,6 +18,15 @@ fn check(alloc: Global) -> Result<TableCheck, NoMemory> {
     Ok(check)
 }
 
+fn signatures(alloc: Global, first: u8, second: u8) -> Result<Args, wire::NoMemory> {
+    let first = Bytes::from_slice(alloc, &[first])?;
+    let second = Bytes::from_slice(alloc, &[second])?;
+    let mut args = Args::new(alloc);
+    args.push(first)?;
+    args.push(second)?;
+    Ok(args)
+}
+
 // The verdict on two signatures.
 fn verdict<C: SigCheck>(
     alloc: Global,
@@ -25,9 +34,7 @@ fn verdict<C: SigCheck>(
     first: u8,
     second: u8,
 ) -> Result<Verdict, vm_run::NoMemory> {
-    let mut args = Args::new(alloc);
-    args.push(Bytes::from_slice(alloc, &[first])?)?;
-    args.push(Bytes::from_slice(alloc, &[second])?)?;
+    let args = signatures(alloc, first, second)?;
     verify(alloc, &Context::Nothing, check, TWO_OF_THREE, &args, 10_000)
 }
 

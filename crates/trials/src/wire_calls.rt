@@ -64,8 +64,9 @@ fn numbers_and_strings(rt: HostRuntime) {
 
 // A copy of two strings.
 fn two_strings(alloc: Global) -> Result<Args, NoMemory> {
+    let text = Bytes::from_slice(alloc, b"ab")?;
     let mut args = Args::new(alloc);
-    args.push(Bytes::from_slice(alloc, b"ab")?)?;
+    args.push(text)?;
     args.push(Bytes::new(alloc))?;
     args.copy(alloc)
 }
