@@ -1,2 +1,3 @@
 pub mod OneValue
 pub mod Page
+pub mod Written

@@ -44,3 +44,5 @@ mod vm_run_calls;
 mod vm_stack_calls;
 #[cfg(test)]
 mod wire_calls;
+#[cfg(test)]
+mod written_ids;

@@ -5,9 +5,8 @@ use data_model::{Input, OutputBody, Tx, decode_tx};
 use entry_ids::{
     asset_id, input_id, mux_id, nonce_id, output_id, result_id, sig_hash, tx_id, tx_ids,
 };
-use keyed::Sha256Id;
+use keyed::{IdHash, Sha256Id};
 use std::alloc::Global;
-use std::test::Fail;
 use wire::{Bytes, Id, NoMemory};
 
 // Made by another program, Python's hashlib, from the bodies written out by hand, for a chain whose initial block has
@@ -58,104 +57,118 @@ const RETIRED: &[u8; 32] =
     \x07\xa7\x93\x0c\x1b\xfd\xea\xbe";
 
 // The same of a transaction that has an input and an output.
-fn ids_of(alloc: Global, tx: &Tx) -> Result<Option<[Id; 5]>, NoMemory>
+fn ids_of<H: IdHash>(alloc: Global, hash: &H, tx: &Tx) -> Result<Option<[Id; 5]>, NoMemory>
     requires { IsTx tx.now }
 {
-    let ids = tx_ids(alloc, &Sha256Id, tx)?;
+    let ids = tx_ids(alloc, hash, tx)?;
     match (
         ids.inputs.as_slice().first(),
         ids.results.as_slice().first(),
     ) {
         (Some(input), Some(result)) => {
-            let signed = sig_hash(alloc, &Sha256Id, input, &ids.tx)?;
+            let signed = sig_hash(alloc, hash, input, &ids.tx)?;
             Ok(Some([ids.mux, *input, *result, ids.tx, signed]))
         }
         _ => Ok(None),
     }
 }
 
-// The same by the calls that form one id each.
-fn each_of(alloc: Global, tx: &Tx) -> Result<Option<[Id; 4]>, NoMemory>
-    requires { IsTx tx.now }
-{
-    if tx.inputs.is_empty() || tx.outputs.is_empty() {
-        return Ok(None);
-    }
-    Ok(Some([
-        mux_id(alloc, &Sha256Id, tx)?,
-        input_id(alloc, &Sha256Id, tx, 0)?,
-        result_id(alloc, &Sha256Id, tx, 0)?,
-        tx_id(alloc, &Sha256Id, tx)?,
-    ]))
+// The same of one that is read.
+pub fn ids_in<H: IdHash>(alloc: Global, hash: &H, tx: &[u8]) -> Option<[Id; 5]> {
+    let tx = decode_tx(alloc, tx).ok()?;
+    ids_of(alloc, hash, &tx).ok()?
 }
 
 #[test]
-fn ids_of_transactions(rt: HostRuntime) -> Result<(), Fail> {
-    let issues = decode_tx(rt.alloc(), ISSUES)?;
-    assert!(rt; ids_of(rt.alloc(), &issues)? == Some(OF_ISSUES));
-    let spends = decode_tx(rt.alloc(), SPENDS)?;
-    assert!(rt; ids_of(rt.alloc(), &spends)? == Some(OF_SPENDS));
-    Ok(())
+fn ids_of_transactions(rt: HostRuntime) {
+    assert!(rt; ids_in(rt.alloc(), &Sha256Id, ISSUES) == Some(OF_ISSUES));
+    assert!(rt; ids_in(rt.alloc(), &Sha256Id, SPENDS) == Some(OF_SPENDS));
 }
 
 // The ids of the mux, of an input, of an output or a retirement and of the transaction, each by its own call.
-fn each_id(alloc: Global, tx: &Tx, k: usize) -> Result<Option<[Id; 4]>, NoMemory>
+fn each_id<H: IdHash>(
+    alloc: Global,
+    hash: &H,
+    tx: &Tx,
+    k: usize,
+) -> Result<Option<[Id; 4]>, NoMemory>
     requires { IsTx tx.now }
 {
     if tx.inputs.len() == 0 || tx.outputs.len() <= k {
         return Ok(None);
     }
     Ok(Some([
-        mux_id(alloc, &Sha256Id, tx)?,
-        input_id(alloc, &Sha256Id, tx, 0)?,
-        result_id(alloc, &Sha256Id, tx, k as u64)?,
-        tx_id(alloc, &Sha256Id, tx)?,
+        mux_id(alloc, hash, tx)?,
+        input_id(alloc, hash, tx, 0)?,
+        result_id(alloc, hash, tx, k as u64)?,
+        tx_id(alloc, hash, tx)?,
     ]))
 }
 
+pub fn each_in<H: IdHash>(alloc: Global, hash: &H, tx: &[u8], k: usize) -> Option<[Id; 4]> {
+    let tx = decode_tx(alloc, tx).ok()?;
+    each_id(alloc, hash, &tx, k).ok()?
+}
+
 #[test]
-fn each_id_of_a_transaction(rt: HostRuntime) -> Result<(), Fail> {
+fn each_id_of_a_transaction(rt: HostRuntime) {
     let [mux, input, _, tx, _] = OF_SPENDS;
-    let spends = decode_tx(rt.alloc(), SPENDS)?;
-    assert!(rt; each_id(rt.alloc(), &spends, 1)? == Some([mux, input, *RETIRED, tx]));
-    Ok(())
+    let each = [mux, input, *RETIRED, tx];
+    assert!(rt; each_in(rt.alloc(), &Sha256Id, SPENDS, 1) == Some(each));
 }
 
 // The id of the asset, and that of the nonce of the first input.
-fn asset_and_nonce(alloc: Global, tx: &Tx) -> Result<(Id, Option<Id>), NoMemory>
+fn asset_and_nonce<H: IdHash>(
+    alloc: Global,
+    hash: &H,
+    tx: &Tx,
+) -> Result<(Id, Option<Id>), NoMemory>
     requires { IsTx tx.now }
 {
-    let asset = asset_id(alloc, &Sha256Id, &[0; 32], b"\x51", b"")?;
+    let asset = asset_id(alloc, hash, &[0; 32], b"\x51", b"")?;
     let nonce = match tx.inputs.as_slice().first() {
-        Some(Input::Issue(issue)) => {
-            Some(nonce_id(alloc, &Sha256Id, issue, tx.mintime, tx.maxtime)?)
-        }
+        Some(Input::Issue(issue)) => { Some(nonce_id(alloc, hash, issue, tx.mintime, tx.maxtime)?) }
         Some(Input::Spend(_)) | None => None,
     };
     Ok((asset, nonce))
 }
 
-#[test]
-fn ids_of_assets_and_nonces(rt: HostRuntime) -> Result<(), Fail> {
-    let issues = decode_tx(rt.alloc(), ISSUES)?;
-    assert!(rt; asset_and_nonce(rt.alloc(), &issues)? == (*ASSET, Some(*NONCE)));
-    Ok(())
+pub fn asset_and_nonce_in<H: IdHash>(
+    alloc: Global,
+    hash: &H,
+    tx: &[u8],
+) -> Option<(Id, Option<Id>)> {
+    let tx = decode_tx(alloc, tx).ok()?;
+    asset_and_nonce(alloc, hash, &tx).ok()
 }
 
-// The id of the output that was issued.
-fn issued(alloc: Global) -> Result<Id, NoMemory> {
+#[test]
+fn ids_of_assets_and_nonces(rt: HostRuntime) {
+    let found = asset_and_nonce_in(rt.alloc(), &Sha256Id, ISSUES);
+    assert!(rt; found == Some((*ASSET, Some(*NONCE))));
+}
+
+// The id of the output that was issued, by the ids of its mux and its asset and the hash of no data.
+pub fn issued<H: IdHash>(
+    alloc: Global,
+    hash: &H,
+    source: Id,
+    asset: Id,
+    data_hash: Id,
+) -> Result<Id, NoMemory> {
     let body = OutputBody {
-        source: OF_ISSUES[0],
+        source,
         position: 0,
-        asset: *ASSET,
+        asset,
         amount: 100,
         program: Bytes::from_slice(alloc, &[0x51])?,
-        data_hash: *NOTHING,
+        data_hash,
     };
-    output_id(alloc, &Sha256Id, &body)
+    output_id(alloc, hash, &body)
 }
 
 #[test]
 fn ids_of_outputs(rt: HostRuntime) {
-    assert!(rt; issued(rt.alloc()) == Ok(OF_ISSUES[2]));
+    let [mux, _, result, _, _] = OF_ISSUES;
+    assert!(rt; issued(rt.alloc(), &Sha256Id, mux, *ASSET, *NOTHING) == Ok(result));
 }
