@@ -43,6 +43,8 @@ mod vm_run_calls;
 #[cfg(test)]
 mod vm_stack_calls;
 #[cfg(test)]
+mod votes;
+#[cfg(test)]
 mod wire_calls;
 #[cfg(test)]
 mod written_ids;

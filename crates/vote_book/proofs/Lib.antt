@@ -1,0 +1,4 @@
+mod Books
+mod Pushes
+mod Quorums
+mod Votes

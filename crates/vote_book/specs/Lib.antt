@@ -1,0 +1,5 @@
+pub mod Spelling
+pub mod Votes
+pub mod Quorum
+pub mod Behind
+pub mod Laws
