@@ -4,6 +4,8 @@
 #![tactic(auto)]
 
 #[cfg(test)]
+mod contexts;
+#[cfg(test)]
 mod data_model_calls;
 #[cfg(test)]
 mod entry_ids_calls;
