@@ -10,8 +10,8 @@ use vm_run::{Context, NoMemory, OutSeen, Outs, TxContext};
 use wire::Id;
 
 // From time 5 on: an issuance of 5 units with a nonce, under the program 51, and a spend of 7 units of another asset,
-// under 52; to an output of 4 units under 53 and a retirement of 8. Each has a byte of data. The bytes, and what follows,
-// were made by another program, Python's hashlib, from the fields and the bodies written out by hand.
+// under 52; to an output of 4 units under 53 and a retirement of 8. Each has a byte of data. The bytes, and what
+// follows, were made by another program, Python's hashlib, from the fields and the bodies written out by hand.
 const MIXED: &[u8; 227] =
     b"\x01\x05\x00\x01\x65\x02\x00\x01\x6e\x02\x02\x02\x02\x02\x02\x02\x02\x02\x02\x02\x02\x02\x02\x02\
     \x02\x02\x02\x02\x02\x02\x02\x02\x02\x02\x02\x02\x02\x02\x02\x02\x02\x05\x01\x51\x00\x01\x61\x00\

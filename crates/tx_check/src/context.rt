@@ -19,7 +19,9 @@ use wire::{Bytes, Id};
 // The greatest time that there is.
 const GREATEST_TIME: u64 = (1 << 63) - 1;
 
-/// What the program of the k-th input may ask for, counted from 0.
+/// What the program of the k-th input may ask for, counted from 0: the input's value and program, the times of the
+/// transaction, hashes of data, ids, and all outputs in order. A transaction with no greatest time is told to have
+/// 2^63 - 1.
 pub fn context_of<H: IdHash>(alloc: Global, hash: &H, tx: &Tx, k: u64) -> Result<Context, NoMemory>
     requires tx { IsTx tx.now }
     requires there { k < length tx.now.inputs }
