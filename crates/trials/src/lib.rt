@@ -17,6 +17,8 @@ mod ledger_core_calls;
 mod outside_calls;
 pub mod page;
 #[cfg(test)]
+mod roots;
+#[cfg(test)]
 mod shown;
 #[cfg(test)]
 mod signatures;
