@@ -1,0 +1,4 @@
+pub mod OneTime
+pub mod Signature
+pub mod Strings
+pub mod Tree
