@@ -1,5 +1,5 @@
 -- One turn more: of a chain, of strings that are joined, of a climb.
-use Rattle.std.proofs.Common.{◌≡◌, ℕ, zero, suc, ◌+◌, ◌-◌, ◌/◌, ◌^◌, ◌≤◌, List, [], ◌++◌, refl, sym, ap, add-one, arith}
+use Rattle.std.proofs.Common.{◌≡◌, ℕ, zero, suc, ◌+◌, ◌-◌, ◌/◌, ◌^◌, ◌≤◌, List, [], ◌++◌, refl, sym, ap, ◌∙◌, append_assoc, add-one, arith}
 use Rattle.std.proofs.Math.Nat.{div-one, div-div-eq-div-mul, pow-suc}
 use Rattle.hash_sigs.specs.Strings.{joined}
 use Rattle.hash_sigs.specs.OneTime.{chain, chain_step}
@@ -25,6 +25,12 @@ joined_none f = refl
 pub joined_more : (f : ℕ → List ℕ) (n : ℕ) → joined f (n + 1) ≡ joined f n ++ f n
 unfolding joined
 joined_more f n = rw add-one refl
+
+pub joined_turn : (front : List ℕ) (f : ℕ → List ℕ) (n : ℕ) (x : List ℕ) → x ≡ f n → (front ++ joined f n) ++ x ≡ front ++ joined f (n + 1)
+joined_turn front f n x e =
+    append_assoc front (joined f n) x
+    ∙ ap (λ y. front ++ (joined f n ++ y)) e
+    ∙ ap (λ y. front ++ y) (sym (joined_more f n))
 
 pub climbed_none : (id : List ℕ) (r : ℕ) (value : List ℕ) (path : ℕ → List ℕ) → value ≡ climbed id r value path 0
 unfolding climbed

@@ -7,7 +7,8 @@ use crate::strings::{Value, u32str};
 use crate::tree::{climbed, leaf};
 use keyed::SigCheck;
 
-const ONE_TIME: u32 = 4;
+/// The number of the type LMOTS_SHA256_N32_W8.
+pub const ONE_TIME: u32 = 4;
 
 /// The check of LMS signatures (RFC 8554, section 5.4.2) of the types LMS_SHA256_M32_H5 and LMS_SHA256_M32_H10 over
 /// LMOTS_SHA256_N32_W8. A key has 56 bytes, a signature 1,292 or 1,452; no other key and no other signature is good.

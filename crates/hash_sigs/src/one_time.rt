@@ -12,7 +12,8 @@ pub const CHAINS: usize = 34;
 /// The last value of each chain has this many steps behind it.
 pub const STEPS: u8 = 255;
 
-const D_PBLC: u16 = 0x8080;
+/// The tag of a one-time public key.
+pub const D_PBLC: u16 = 0x8080;
 
 const D_MESG: u16 = 0x8181;
 

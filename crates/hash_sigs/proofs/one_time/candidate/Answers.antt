@@ -1,8 +1,8 @@
-use Rattle.std.proofs.Common.{ℕ, ◌≡◌, ◌+◌, ◌-◌, ◌++◌, List, get_or, subst, sym, ap, ◌∙◌, append_assoc, append-nil, arith}
+use Rattle.std.proofs.Common.{ℕ, ◌≡◌, ◌-◌, ◌++◌, List, get_or, subst, append-nil, arith}
 use Rattle.sha2.specs.Hashers.{Holds256}
 use Rattle.hash_sigs.specs.Strings.{u32str, u16str, joined, string_at}
 use Rattle.hash_sigs.specs.OneTime.{chain, one_time_key, candidate}
-use Rattle.hash_sigs.proofs.Steps.{joined_none, joined_more}
+use Rattle.hash_sigs.proofs.Steps.{joined_none, joined_turn}
 use Rattle.hash_sigs.proofs.one_time.candidate.Goals as goal
 
 pub loop-i-init : goal.loop-i-init
@@ -17,10 +17,7 @@ loop-i-preserved c =
     let f : ℕ → List ℕ = λ i. chain c.args.id.now c.args.q i (get_or c.args.digits.now i 0) (255 - get_or c.args.digits.now i 0) (string_at c.args.signature.now c.args.at i) in
     let step = c.update.ensures (front ++ joined f c.loop-i.i) c.loop-i.invariant in
     let end : c.chained-end.result ≡ f c.loop-i.i = cc (c.chained-end.ensures, c.value_at-value.ensures) in
-    let grown : (front ++ joined f c.loop-i.i) ++ c.chained-end.result ≡ front ++ joined f (c.loop-i.i + 1) =
-    append_assoc front (joined f c.loop-i.i) c.chained-end.result
-    ∙ ap (λ x. front ++ (joined f c.loop-i.i ++ x)) end
-    ∙ ap (λ x. front ++ x) (sym (joined_more f c.loop-i.i)) in
+    let grown = joined_turn front f c.loop-i.i c.chained-end.result end in
     subst (λ (m : List ℕ). Holds256 c.update.new.self m) grown step
 
 pub returns : goal.returns
