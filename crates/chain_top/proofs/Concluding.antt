@@ -12,7 +12,7 @@ use Rattle.chain_top.specs.Line.{usage_line}
 use Rattle.chain_top.specs.Plan.{End, Done, Refused, Missing, Plan, done, GivenBy, Ends, Does, Follows}
 use Rattle.chain_top.specs.Reply.{Choice, model_of, ended, reply_of, usage_reply, CommandReply, IsReply}
 use Rattle.chain_top.specs.Steps.{Begun, reads_of}
-use Rattle.chain_top.specs.Word.{Word}
+use Rattle.word_lines.specs.Word.{Word}
 use Rattle.chain_top.specs.declared.stop.Stop.{Stop}
 use Rattle.chain_top.specs.declared.stop.Stop.TheVariants as stops
 use Rattle.chain_top.proofs.Fronts.{not_refused}

@@ -13,11 +13,11 @@ use Rattle.outside.specs.Crash.{State, StepAt, Leads, MayLeave, cut_short, IsMom
 use Rattle.outside.specs.CrashLaws.{MomentsJoin, OthersStay, StartsKept}
 use Rattle.chain_top.specs.Answer.{done_of}
 use Rattle.data_model.specs.Files.{block_frame}
-use Rattle.chain_top.specs.Files.{file_spelling}
+use Rattle.ledger_file.specs.Files.{file_spelling}
 use Rattle.chain_top.specs.Growth.{HoldsBlocks, appends, Grows, IsTorn, LeavesFront, ApplyCrash, GrowthLaws, CrashLaws}
 use Rattle.chain_top.specs.Reply.{Reply}
 use Rattle.chain_top.specs.Steps.{writes_of}
-use Rattle.chain_top.specs.Word.{Word}
+use Rattle.word_lines.specs.Word.{Word}
 use Rattle.chain_top.proofs.Growing.{same_name}
 
 -- ---- moments

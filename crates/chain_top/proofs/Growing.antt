@@ -17,15 +17,16 @@ use Rattle.outside.specs.Steps.{Step, Read, Print}
 use Rattle.chain_top.specs.Answer.{GoesOn}
 use Rattle.chain_top.specs.Asking.{missing, too_long, found, checks, refused as is_refused, goes_on}
 use Rattle.data_model.specs.Files.{block_frame, BlocksReadAs}
-use Rattle.chain_top.specs.Files.{AreFramed, file_spelling}
+use Rattle.ledger_file.specs.Files.{AreFramed, file_spelling}
 use Rattle.chain_top.specs.Growth.{HoldsBlocks, appends, offers_told, Grows, EndsGrown, ApplyReply, ApplyFor, GrowthLaws}
 use Rattle.chain_top.specs.Line.{accepted_line, refused_block}
-use Rattle.chain_top.specs.Loading.{chain, most_bytes, LedgerOf, BlocksOf, FitsWith}
+use Rattle.ledger_file.specs.Loading.{chain}
+use Rattle.chain_top.specs.Loading.{most_bytes, LedgerOf, BlocksOf, FitsWith}
 use Rattle.chain_top.specs.Offers.{OfferOwes, accepted, refused, OffersOwe, none, next, offers_model}
 use Rattle.chain_top.specs.Plan.{End, Done, Refused, Missing, Plan, done, behind, Given, later, GivenBy}
 use Rattle.chain_top.specs.Reply.{Reply, ended, reply_of, offered_model, offer_file_model, ledger_model, apply_model}
 use Rattle.chain_top.specs.Steps.{Line, lines_after, lines_of, reads_of, writes_of}
-use Rattle.chain_top.specs.Word.{Word}
+use Rattle.word_lines.specs.Word.{Word}
 use Rattle.chain_top.proofs.Flat.{writes-both}
 use Rattle.chain_top.proofs.Fronts.{not_refused}
 use Rattle.chain_top.specs.Known.{Known}

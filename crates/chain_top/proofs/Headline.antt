@@ -21,7 +21,7 @@ use Rattle.chain_top.specs.Plan.{Refused, Plan, behind, Given, later, GivenBy}
 use Rattle.chain_top.specs.Reply.{Choice, Reply, misfit, vm_model, init_model, offered_model, offer_file_model, ledger_model, apply_model, ended, reply_of, CommandReply, ReplyFor}
 use Rattle.chain_top.specs.Steps.{reads_of, writes_of}
 use Rattle.chain_top.specs.Whole.{IsWhole, ReplyLaws, AnswerLaws}
-use Rattle.chain_top.specs.Word.{Word}
+use Rattle.word_lines.specs.Word.{Word}
 use Rattle.chain_top.proofs.Asking.{not_both}
 use Rattle.chain_top.proofs.Concluding.{reads-ended}
 use Rattle.chain_top.proofs.Flat.{goes_on-whole}

@@ -5,10 +5,8 @@ pub mod Crashing
 pub mod Ending
 pub mod Fronts
 pub mod Flat
-pub mod FewBlocks
 pub mod Growing
 pub mod Headline
-pub mod HexWords
 pub mod Lines
 pub mod Loaded
 pub mod Loads
@@ -16,4 +14,3 @@ pub mod Models
 pub mod Offering
 pub mod VmLines
 pub mod Wholly
-pub mod Words

@@ -13,11 +13,12 @@ use Rattle.chain_top.specs.Command.{Command, Vm, Init, Apply}
 use Rattle.chain_top.specs.Known.{Known}
 use Rattle.chain_top.specs.Initial.{initial_block}
 use Rattle.chain_top.specs.Line.{refused_hex, refused_size, refused_block}
-use Rattle.chain_top.specs.Loading.{LoadsAs, chain, most_bytes, LedgerOf, BlocksOf, FitsWith}
+use Rattle.ledger_file.specs.Loading.{LoadsAs, chain}
+use Rattle.chain_top.specs.Loading.{most_bytes, LedgerOf, BlocksOf, FitsWith}
 use Rattle.chain_top.specs.Offers.{OfferOwes, accepted, refused, OffersOwe, none, next, offers_model}
 use Rattle.chain_top.specs.Reply.{Choice, VmLine, vm_model, HexOf, init_steps, init_model, offered_model, offer_file_model, ledger_model, apply_model, model_of}
 use Rattle.chain_top.specs.Steps.{reads_of}
-use Rattle.chain_top.specs.Word.{Word, hex_of}
+use Rattle.word_lines.specs.Word.{Word, hex_of}
 use Rattle.chain_top.proofs.Asking.{asks-model, checks-model, steps-model, known-model}
 use Rattle.chain_top.proofs.Loads.{ledger_check, blocks_check}
 use Rattle.chain_top.proofs.VmLines.{vm_check}

@@ -18,7 +18,7 @@ use Rattle.chain_top.specs.Line.{accepted_line, refused_block}
 use Rattle.chain_top.specs.Offered.{OfferDone, OffersDone}
 use Rattle.chain_top.specs.Offers.{OfferOwes, accepted, refused, OffersOwe, none, next, offers_model}
 use Rattle.chain_top.specs.Plan.{done, GivenBy, Does, Follows}
-use Rattle.chain_top.specs.Word.{Word}
+use Rattle.word_lines.specs.Word.{Word}
 use Rattle.chain_top.specs.declared.stop.Stop.{Stop}
 use Rattle.chain_top.specs.declared.stop.Stop.TheVariants as stops
 use Rattle.chain_top.proofs.Fronts.{does-then, does-cut, does-none, does-nothing}

@@ -14,7 +14,7 @@ use Rattle.chain_top.specs.Reading.{WordsOf, LineOfRun}
 use Rattle.chain_top.specs.Reply.{HexOf, VmLine, misfit, ran}
 use Rattle.chain_top.specs.declared.stop.Stop.{Stop}
 use Rattle.chain_top.specs.declared.stop.Stop.TheVariants as stops
-use Rattle.chain_top.specs.Word.{Word, hex_of, hex_words, on_hex, with_front}
+use Rattle.word_lines.specs.Word.{Word, hex_of, hex_words, on_hex, with_front}
 
 module _ (check : Check) (limit : ℕ) (program : Word) (args : List Word) where
   pub no_program : (line : List ℕ) → HexOf 2 program (Err line) → VmLine check limit program args (Err line)

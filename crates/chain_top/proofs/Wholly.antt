@@ -16,7 +16,7 @@ use Rattle.chain_top.specs.Plan.{End, Done, Refused, Missing, Plan, Given, AreBy
 use Rattle.chain_top.specs.Reply.{Choice, Reply, model_of, ended, reply_of, usage_reply, CommandReply, IsReply, ReplyFor}
 use Rattle.chain_top.specs.Steps.{Begun, Did, reads_of}
 use Rattle.chain_top.specs.Whole.{NoneFailed, IsWhole, ReplyLaws, AnswerLaws}
-use Rattle.chain_top.specs.Word.{Word}
+use Rattle.word_lines.specs.Word.{Word}
 use Rattle.chain_top.proofs.Concluding.{reads-ended}
 use Rattle.chain_top.proofs.Flat as flat
 use Rattle.chain_top.proofs.Models.{command-model}

@@ -1,7 +1,7 @@
 -- The grammar of words.
-use Rattle.std.specs.Prelude.{ℕ, ◌-◌, ◌^◌, List, [], ◌∷◌, Option, Some, None, if◌then◌else◌, bytes_eq, codes}
+use Rattle.std.specs.Prelude.{ℕ, List, [], ◌∷◌, Option, Some, None, if◌then◌else◌, bytes_eq, codes}
 use Rattle.std.specs.Option.{option_map}
-use Rattle.chain_top.specs.Word.{Word, decimal_within}
+use Rattle.word_lines.specs.Word.{Word, decimal_within, decimal_most}
 
 -- a command with the words that it takes
 pub data Command : Type 0 where
@@ -21,10 +21,6 @@ abbrev pub vm_words : List Word → Option Command
 vm_words (limit ∷ program ∷ args) = option_map (λ n. Vm n program args) (decimal_within limit_most limit)
 vm_words (limit ∷ []) = None
 vm_words [] = None
-
--- a decimal word is at most 2^63 - 1
-abbrev pub decimal_most : ℕ
-decimal_most = 2 ^ 63 - 1
 
 -- `init LEDGER TIME PROGRAM`
 abbrev pub init_words : List Word → Option Command

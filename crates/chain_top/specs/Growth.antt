@@ -13,11 +13,11 @@ use Rattle.chain_top.specs.Answer.{GoesOn, done_of}
 use Rattle.chain_top.specs.Plan.{Plan, Given, GivenBy}
 use Rattle.chain_top.specs.Steps.{Line, lines_of, reads_of, writes_of}
 use Rattle.data_model.specs.Files.{BlocksReadAs, block_frame}
-use Rattle.chain_top.specs.Files.{file_spelling}
+use Rattle.ledger_file.specs.Files.{file_spelling}
 use Rattle.chain_top.specs.Line.{accepted_line, refused_block}
 use Rattle.ledger_core.specs.Refusal.{Hash}
 use Rattle.chain_top.specs.Reply.{Reply, reply_of, apply_model}
-use Rattle.chain_top.specs.Word.{Word}
+use Rattle.word_lines.specs.Word.{Word}
 
 -- a file is there, and reads as these blocks
 abbrev pub HoldsBlocks : Content → List Block → Type 0

@@ -13,7 +13,7 @@ use Rattle.chain_top.specs.Loading.{most_bytes, LedgerOf, BlocksOf}
 use Rattle.chain_top.specs.Plan.{Refused}
 use Rattle.chain_top.specs.Reply.{Choice, Reply, ended, ReplyFor}
 use Rattle.chain_top.specs.Whole.{NoneFailed, IsWhole}
-use Rattle.chain_top.specs.Word.{Word}
+use Rattle.word_lines.specs.Word.{Word}
 
 -- ---- the whole reply
 

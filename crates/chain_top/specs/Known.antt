@@ -1,8 +1,9 @@
 -- What the crates below say of all values, together.
 use Rattle.std.specs.Prelude.{◌≡◌, ℕ, List}
 use Rattle.data_model.specs.Files.{BlockFileLaws}
-use Rattle.ledger_core.specs.Laws.{TableLaws, RefusalLaws, ChainLaws}
+use Rattle.ledger_core.specs.Laws.{RefusalLaws, ChainLaws}
 use Rattle.ledger_core.specs.Roots.{Hash}
+use Rattle.ledger_file.specs.Laws.{FewBlocks, LoadLaws}
 use Rattle.vm_num.specs.Item.{Item}
 use Rattle.vm_run.specs.Row.{Check}
 use Rattle.vm_run.specs.declared.context.Context.{Context}
@@ -22,7 +23,8 @@ pub record VerdictLaws : Type 0 where
 
 pub record Known : Type 0 where
   pub files : BlockFileLaws
+  pub few : FewBlocks
   pub verdicts : VerdictLaws
-  pub tables : (hash : Hash) (check : Check) → TableLaws hash check
   pub refusals : (hash : Hash) (check : Check) → RefusalLaws hash check
   pub chains : (hash : Hash) (check : Check) → ChainLaws hash check
+  pub loads : (hash : Hash) (check : Check) → LoadLaws hash check

@@ -2,17 +2,14 @@ pub mod Answer
 pub mod Asking
 pub mod Command
 pub mod Ending
-pub mod Files
 pub mod Growth
 pub mod Headline
 pub mod Initial
 pub mod Known
 pub mod Line
-pub mod Loaded
 pub mod Loading
 pub mod Offered
 pub mod Offers
-pub mod Piece
 pub mod Plan
 pub mod Reading
 pub mod Refused
@@ -20,4 +17,3 @@ pub mod Reply
 pub mod Seen
 pub mod Steps
 pub mod Whole
-pub mod Word

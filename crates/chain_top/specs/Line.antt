@@ -1,5 +1,5 @@
 -- Printed lines, each with its newline.
-use Rattle.std.specs.Prelude.{ℕ, List, [], ◌∷◌, ◌++◌, codes, decimal}
+use Rattle.std.specs.Prelude.{ℕ, List, [], ◌++◌, codes, decimal}
 use Rattle.hex.specs.Hex.{encode_lower}
 use Rattle.wire.specs.declared.fault.DataKind.{DataKind}
 use Rattle.vm_num.specs.Failure.{failure_name}
@@ -12,9 +12,7 @@ use Rattle.ledger_core.specs.declared.refusal.StartFault.TheVariants as starts
 use Rattle.ledger_core.specs.declared.refusal.BlockRefusal.{BlockRefusal}
 use Rattle.ledger_core.specs.declared.refusal.BlockRefusal.TheVariants.{B1, B2, B3, B4, B5, B6, B7, B9}
 use Rattle.wire.specs.Kinds.{kind_name}
-
-abbrev pub newline : List ℕ
-newline = 10 ∷ []
+use Rattle.word_lines.specs.Piece.{newline}
 
 abbrev pub usage_line : List ℕ
 usage_line = codes "usage\n"

@@ -1,52 +1,19 @@
--- What files of blocks read as, and the ledgers that they hold.
-use Rattle.std.specs.Prelude.{◌≡◌, ℕ, ◌+◌, ◌<◌, ◌≤◌, List, [], ◌∷◌, ◌++◌, length, Some, Result, Ok, Err}
+-- What a command checks of the files of blocks that it read, and how their faults are told.
+use Rattle.std.specs.Prelude.{◌≡◌, ℕ, ◌+◌, ◌<◌, ◌≤◌, List, [], length, Result, Ok, Err}
 use Rattle.data_model.specs.declared.block.Block.{Block}
-use Rattle.wire.specs.declared.fault.DataKind.TheVariants.{Count}
-use Rattle.vm_run.specs.Row.{Check}
-use Rattle.ledger_core.specs.declared.refusal.BlockRefusal.{BlockRefusal}
-use Rattle.ledger_core.specs.declared.refusal.StartFault.{StartFault}
-use Rattle.ledger_core.specs.Refusal.{Hash, Refusal}
-use Rattle.ledger_core.specs.Start.{StartRefusal}
-use Rattle.ledger_core.specs.Chain.{Chain}
-use Rattle.chain_top.specs.declared.load.LoadFault.{LoadFault}
-use Rattle.chain_top.specs.declared.load.LoadFault.TheVariants as faults
-use Rattle.chain_top.specs.Asking.{lined}
-use Rattle.wire.specs.Files.{FileFault}
 use Rattle.data_model.specs.Files.{BlocksReadAs}
+use Rattle.vm_run.specs.Row.{Check}
+use Rattle.wire.specs.Files.{FileFault}
+use Rattle.ledger_core.specs.Refusal.{Hash}
+use Rattle.ledger_file.specs.declared.fault.LoadFault.{LoadFault}
+use Rattle.ledger_file.specs.declared.fault.LoadFault.TheVariants as faults
+use Rattle.ledger_file.specs.Loading.{LoadsAs}
+use Rattle.chain_top.specs.Asking.{lined}
 use Rattle.chain_top.specs.Line.{refused_size, refused_file, refused_ledger, start_words, refusal_words}
 
 -- the most bytes of a file, and of the two files of `apply` together
 abbrev pub most_bytes : ℕ
 most_bytes = 67108864
-
--- The blocks of a ledger's file, which are a chain, or the file's fault: of its frames, of its first block, or of the
--- first later block that does not extend those before it.
-pub data LoadsAs (hash : Hash) (check : Check) (bytes : List ℕ) : Result (List Block) LoadFault → Type 0 where
-  -- it has no frame
-  empty : bytes ≡ [] → LoadsAs hash check bytes (Err (faults.Frame 0 0 Count))
-  -- it does not read as frames
-  no_frames :
-      {fault : FileFault}
-      → BlocksReadAs bytes (Err fault)
-      → LoadsAs hash check bytes (Err (faults.Frame fault.index fault.at fault.kind))
-  -- the first block starts no chain
-  no_start :
-      (initial : Block) (later : List Block) {why : StartFault}
-      → BlocksReadAs bytes (Ok (initial ∷ later))
-      → StartRefusal hash initial (Some why)
-      → LoadsAs hash check bytes (Err (faults.Start why))
-  -- a later one does not extend those before it
-  no_next :
-      (before : List Block) (block : Block) (later : List Block) {why : BlockRefusal}
-      → BlocksReadAs bytes (Ok (before ++ block ∷ later))
-      → Chain hash check before
-      → Refusal hash check before block (Some why)
-      → LoadsAs hash check bytes (Err (faults.Block (length before) why))
-  chain :
-      {blocks : List Block}
-      → BlocksReadAs bytes (Ok blocks)
-      → Chain hash check blocks
-      → LoadsAs hash check bytes (Ok blocks)
 
 -- ---- lines
 

@@ -7,7 +7,7 @@ use Rattle.outside.specs.Steps.{Step}
 use Rattle.outside.specs.World.{Io}
 use Rattle.chain_top.specs.Offers.{OfferOwes, OffersOwe}
 use Rattle.chain_top.specs.Plan.{done, Does}
-use Rattle.chain_top.specs.Word.{Word}
+use Rattle.word_lines.specs.Word.{Word}
 use Rattle.chain_top.specs.declared.stop.Stop.{Stop}
 
 -- One block was offered, and what it owes was done up to some step. Where it was all done, the ledger then has the

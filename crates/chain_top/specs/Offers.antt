@@ -10,7 +10,7 @@ use Rattle.outside.specs.Steps.{Step, Write, Print}
 use Rattle.data_model.specs.Files.{block_frame}
 use Rattle.chain_top.specs.Line.{accepted_line, refused_block}
 use Rattle.chain_top.specs.Plan.{Plan, done, Given}
-use Rattle.chain_top.specs.Word.{Word}
+use Rattle.word_lines.specs.Word.{Word}
 
 -- What one block owes that is offered after these blocks, and the blocks after it: an accepted one is appended to the
 -- ledger and then told; a refused one is told.

@@ -6,7 +6,7 @@ use Rattle.vm_run.specs.declared.context.Context.TheVariants.{Nothing}
 use Rattle.vm_run.specs.declared.verdict.Verdict.{Verdict}
 use Rattle.vm_run.specs.Verdict.{HasVerdict}
 use Rattle.chain_top.specs.Line.{refused_hex, verdict_line}
-use Rattle.chain_top.specs.Word.{Word, hex_words}
+use Rattle.word_lines.specs.Word.{Word, hex_words}
 
 -- the bytes of words, the first of them at this place, or the refusal of the first that is no hex word
 abbrev pub WordsOf : ℕ → List Word → Result (List (List ℕ)) (List ℕ) → Type 0

@@ -1,9 +1,9 @@
 -- What a function answers that refuses.
 use Rattle.std.specs.Prelude.{◌≡◌, ℕ, List, ◌++◌, string_bytes}
 use Rattle.chain_top.specs.Loading.{load_line}
-use Rattle.chain_top.specs.Piece.{text_of}
-use Rattle.chain_top.specs.declared.load.LoadFault.{LoadFault}
-use Rattle.chain_top.specs.declared.load.LoadFault.TheVariants as faults
+use Rattle.word_lines.specs.Piece.{text_of}
+use Rattle.ledger_file.specs.declared.fault.LoadFault.{LoadFault}
+use Rattle.ledger_file.specs.declared.fault.LoadFault.TheVariants as faults
 use Rattle.chain_top.specs.declared.refused.Words.{Words}
 use Rattle.chain_top.specs.declared.stop.Stop.{Stop}
 use Rattle.chain_top.specs.declared.stop.Stop.TheVariants as stops

@@ -19,7 +19,7 @@ use Rattle.chain_top.specs.Loading.{most_bytes, LedgerOf, BlocksOf, FitsWith}
 use Rattle.chain_top.specs.Offers.{offers_model}
 use Rattle.chain_top.specs.Plan.{End, Done, Refused, Missing, Plan, done, Given, GivenBy}
 use Rattle.chain_top.specs.Steps.{reads_of}
-use Rattle.chain_top.specs.Word.{Word, hex_of, hex_words}
+use Rattle.word_lines.specs.Word.{Word, hex_of, hex_words}
 
 -- The status, and what is read, written and printed, in order. The printed lines with the number of writes before each,
 -- the reads and the writes are `lines_of`, `reads_of` and `writes_of` of the steps.

@@ -2,12 +2,13 @@
 use Rattle.std.specs.Prelude.{◌≤◌, Option, Some, None, map, string_bytes}
 use Rattle.chain_top.specs.declared.command.Command.{Command as RustCommand}
 use Rattle.chain_top.specs.declared.command.Command.TheVariants as rust
-use Rattle.chain_top.specs.Command.{Command, Vm, Init, Apply, limit_most, decimal_most}
+use Rattle.chain_top.specs.Command.{Command, Vm, Init, Apply, limit_most}
+use Rattle.word_lines.specs.Word.{decimal_most}
 
 abbrev pub seen : RustCommand → Command
-seen (rust.Vm limit program args) = Vm limit (string_bytes program.now) (map string_bytes args.now)
-seen (rust.Init ledger time program) = Init (string_bytes ledger.now) time (string_bytes program.now)
-seen (rust.Apply ledger offers) = Apply (string_bytes ledger.now) (string_bytes offers.now)
+seen (rust.Vm limit program args) = Vm limit program.now (map string_bytes args.now)
+seen (rust.Init ledger time program) = Init ledger.now time program.now
+seen (rust.Apply ledger offers) = Apply ledger.now offers.now
 
 abbrev pub seen_command : Option RustCommand → Option Command
 seen_command None = None

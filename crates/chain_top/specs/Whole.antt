@@ -11,7 +11,7 @@ use Rattle.chain_top.specs.Command.{command_of}
 use Rattle.chain_top.specs.Plan.{Given, AreBytesGiven}
 use Rattle.chain_top.specs.Reply.{Choice, Reply, IsReply, ReplyFor}
 use Rattle.chain_top.specs.Steps.{all_of, Did}
-use Rattle.chain_top.specs.Word.{Word}
+use Rattle.word_lines.specs.Word.{Word}
 
 -- no call on the files or on the sink failed
 pub record NoneFailed (before after : World) : Type 0 where

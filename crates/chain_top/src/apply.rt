@@ -7,7 +7,7 @@ ghost use Rattle.outside.specs.Steps.{Write, Print};
 ghost use Rattle.std.specs.Vec.Iter.{into_iter_items};
 ghost use Rattle.chain_top.specs.Asking.{Checked};
 ghost use Rattle.data_model.specs.Files.{IsFramed, block_frame};
-ghost use Rattle.chain_top.specs.Files.{AreFramed};
+ghost use Rattle.ledger_file.specs.Files.{AreFramed};
 ghost use Rattle.chain_top.specs.Line.{accepted_line, refused_block};
 ghost use Rattle.chain_top.specs.Loading.{most_bytes, LedgerOf, BlocksOf};
 ghost use Rattle.chain_top.specs.Offered.{OfferDone, OffersDone};
@@ -18,15 +18,16 @@ use crate::ask::{ask, fit_together};
 use crate::calls::{append, say};
 use crate::known::known;
 use crate::line::accepted_line;
-use crate::load::load;
 use crate::refused::{refused_block, refused_file, refused_load};
 use crate::stop::Stop;
-use data_model::{Block, Blocks, FramesFault, frame};
+use data_model::{Block, FramesFault};
 use keyed::{IdHash, SigCheck};
 use ledger_core::{Accepted, BlockRefusal, Ledger, OfferFault};
+use ledger_file::{few_blocks, frame, load};
 use outside::Outside;
 use std::alloc::Global;
 use std::vec::IntoIter;
+use wire::NoMemory;
 
 /// Offers the blocks of one file to the ledger of another, in order, and tells each.
 pub fn apply<O: Outside, H: IdHash, C: SigCheck>(
@@ -75,13 +76,14 @@ fn load_ledger<H: IdHash, C: SigCheck>(
 }
 
 // The blocks of the file that the word at this place names.
-fn read_blocks(alloc: Global, bytes: &[u8], place: u64) -> Result<Blocks, Stop>
-    ensures blocks { Checked (λ blocks. blocks) (BlocksOf place bytes.now) result }
-    ensures framed { IfOk result AreFramed }
-    ensures few { IfOk result (λ blocks. length blocks ≤ length bytes.now) }
+fn read_blocks(alloc: Global, bytes: &[u8], place: u64) -> Result<IntoIter<Block>, Stop>
+    ensures blocks { Checked into_iter_items (BlocksOf place bytes.now) result }
+    ensures framed { IfOk result (λ blocks. AreFramed (into_iter_items blocks)) }
+    ensures few { IfOk result (λ blocks. length (into_iter_items blocks) ≤ length bytes.now) }
 {
+    few_blocks();
     match data_model::read_blocks(alloc, bytes) {
-        Ok(blocks) => Ok(blocks),
+        Ok(blocks) => Ok(blocks.into_vec().into_iter()),
         Err(FramesFault::At { index, at, kind }) => {
             Err(refused_file(alloc, place, index, at, kind))
         }
@@ -111,15 +113,7 @@ fn offer_file<O: Outside, H: IdHash, C: SigCheck>(
     let bytes = ask(alloc, out, offers, 2)?;
     let blocks = read_blocks(alloc, bytes.as_slice(), 2)?;
     fit_together(alloc, 2, held, bytes.as_slice())?;
-    offer_all(
-        alloc,
-        ledger,
-        chain,
-        blocks.into_vec().into_iter(),
-        out,
-        hash,
-        sigs,
-    )
+    offer_all(alloc, ledger, chain, blocks, out, hash, sigs)
 }
 
 // Offers the blocks in order, and tells each.
@@ -192,5 +186,8 @@ fn accept<O: Outside>(
 fn refuse<O: Outside>(alloc: Global, refusal: &BlockRefusal, out: &mut O) -> Result<(), Stop>
     ensures { Does (done (Print (refused_block refusal.now) ∷ [])) (O.io out.old) (O.io out.new) result }
 {
-    say(out, refused_block(alloc, refusal)?.as_bytes())
+    match refused_block(alloc, refusal) {
+        Ok(line) => say(out, line.as_bytes()),
+        Err(NoMemory) => Err(Stop::NoMemory),
+    }
 }

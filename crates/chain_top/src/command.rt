@@ -3,13 +3,10 @@ ghost use Rattle.std.specs.Prelude.{◌≡◌, ◌+◌, ◌<◌, ◌^◌, length
 ghost use Rattle.chain_top.specs.Command.{command_of, vm_words, init_words, apply_words};
 ghost use Rattle.chain_top.specs.Seen.{seen_command, HasLimit};
 
-use crate::word::decimal;
+use word_lines::{decimal, decimal_within};
 
 // Until predicates run in frames of their own, a limit is at most 100,000.
 const LIMIT_MOST: u64 = 100_000;
-
-// The greatest number of a decimal word.
-const DECIMAL_MOST: u64 = (1 << 63) - 1;
 
 /// A command with the words that it takes.
 #[derive(Clone, Copy)]
@@ -17,19 +14,19 @@ pub enum Command<'a> {
     /// The limit, and the program with its arguments behind it.
     Vm {
         limit: u64,
-        program: &'a String,
+        program: &'a str,
         args: &'a [String],
     },
     /// The ledger's name, the time of its initial block, and that block's next program.
     Init {
-        ledger: &'a String,
+        ledger: &'a str,
         time: u64,
-        program: &'a String,
+        program: &'a str,
     },
     /// The ledger's name, and that of the file of offers.
     Apply {
-        ledger: &'a String,
-        offers: &'a String,
+        ledger: &'a str,
+        offers: &'a str,
     },
 }
 
@@ -53,10 +50,10 @@ fn vm_words(words: &[String]) -> Option<Command<'_>>
 {
     match words {
         [limit, program, args @ ..] => {
-            let limit = decimal(limit.as_str(), LIMIT_MOST)?;
+            let limit = decimal_within(limit.as_str(), LIMIT_MOST)?;
             Some(Command::Vm {
                 limit,
-                program,
+                program: program.as_str(),
                 args,
             })
         }
@@ -70,11 +67,11 @@ fn init_words(words: &[String]) -> Option<Command<'_>>
 {
     match words {
         [ledger, time, program] => {
-            let time = decimal(time.as_str(), DECIMAL_MOST)?;
+            let time = decimal(time.as_str())?;
             Some(Command::Init {
-                ledger,
+                ledger: ledger.as_str(),
                 time,
-                program,
+                program: program.as_str(),
             })
         }
         _ => None,
@@ -86,7 +83,10 @@ fn apply_words(words: &[String]) -> Option<Command<'_>>
     ensures limit { HasLimit result }
 {
     match words {
-        [ledger, offers] => Some(Command::Apply { ledger, offers }),
+        [ledger, offers] => Some(Command::Apply {
+            ledger: ledger.as_str(),
+            offers: offers.as_str(),
+        }),
         _ => None,
     }
 }

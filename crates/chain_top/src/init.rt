@@ -1,10 +1,10 @@
 // The command `init`.
-ghost use Rattle.std.specs.Prelude.{◌≡◌, ◌<◌, ◌^◌, [], ◌∷◌};
+ghost use Rattle.std.specs.Prelude.{◌≡◌, ◌<◌, ◌^◌, [], ◌∷◌, IfOk, string_bytes};
 ghost use Rattle.outside.specs.Files.{Replace};
 ghost use Rattle.outside.specs.Steps.{Write, Print};
 ghost use Rattle.entry_ids.specs.Entry.{header_id};
 ghost use Rattle.data_model.specs.Files.{block_frame};
-ghost use Rattle.data_model.specs.Spelling.{IsBlock};
+ghost use Rattle.data_model.specs.Spelling.{IsBlock, IsHeader};
 ghost use Rattle.chain_top.specs.Initial.{initial_block};
 ghost use Rattle.chain_top.specs.Line.{block_line};
 ghost use Rattle.chain_top.specs.Plan.{done, Does, Follows};
@@ -14,12 +14,13 @@ use crate::calls::{replace, say};
 use crate::line::block_line;
 use crate::stop::Stop;
 use crate::word::hex_word;
-use data_model::{Block, Header, Txs, frame};
+use data_model::{Block, Header, Txs};
 use entry_ids::block_id;
 use keyed::IdHash;
+use ledger_file::frame;
 use outside::Outside;
 use std::alloc::Global;
-use wire::{Args, Bytes};
+use wire::{Args, Bytes, NoMemory};
 
 /// Sets the ledger to one frame, the initial block of this time and next program, and tells it.
 pub fn init<O: Outside, H: IdHash>(
@@ -50,9 +51,18 @@ fn start<O: Outside, H: IdHash>(
     requires { IsBlock block.now }
     ensures { Does (done (init_steps (H.hash_of hash.now) ledger.now block.now)) (O.io out.old) (O.io out.new) result }
 {
-    let line = block_line(alloc, 1, &block_id(alloc, hash, &block.header)?)?;
+    let line = initial_line(alloc, hash, &block.header)?;
     let frame = frame(alloc, block)?;
     set(ledger, frame.as_slice(), line.as_bytes(), out)
+}
+
+// The line of an initial block.
+fn initial_line<H: IdHash>(alloc: Global, hash: &H, header: &Header) -> Result<String, NoMemory>
+    requires { IsHeader header.now }
+    ensures { IfOk result (λ line. string_bytes line ≡ block_line 1 (header_id (H.hash_of hash.now) header.now)) }
+{
+    let id = block_id(alloc, hash, header)?;
+    block_line(alloc, 1, &id)
 }
 
 fn set<O: Outside>(ledger: &str, frame: &[u8], line: &[u8], out: &mut O) -> Result<(), Stop>

@@ -2,7 +2,8 @@
 ghost use Rattle.chain_top.specs.Known.{Known};
 
 use data_model::block_files;
-use ledger_core::{growing_chains, one_line, one_refusal};
+use ledger_core::{growing_chains, one_refusal};
+use ledger_file::{few_blocks, one_load};
 use vm_run::laws::one_verdict;
 
 /// The laws of the crates below, for the proofs of this one. It does nothing when it runs.
@@ -10,8 +11,9 @@ pub fn known()
     ensures { Known }
 {
     block_files();
+    few_blocks();
     one_verdict();
-    one_line();
     one_refusal();
     growing_chains();
+    one_load();
 }

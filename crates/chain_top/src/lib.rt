@@ -18,7 +18,6 @@ mod init;
 mod known;
 pub mod laws;
 mod line;
-mod load;
 mod refused;
 mod status;
 mod stop;
@@ -157,14 +156,12 @@ fn run<O: Outside, H: IdHash, C: SigCheck>(
             limit,
             program,
             args,
-        } => vm(alloc, limit, program.as_str(), args, out, sigs),
+        } => vm(alloc, limit, program, args, out, sigs),
         Command::Init {
             ledger,
             time,
             program,
-        } => init(alloc, ledger.as_str(), time, program.as_str(), out, hash),
-        Command::Apply { ledger, offers } => {
-            apply(alloc, ledger.as_str(), offers.as_str(), out, hash, sigs)
-        }
+        } => init(alloc, ledger, time, program, out, hash),
+        Command::Apply { ledger, offers } => apply(alloc, ledger, offers, out, hash, sigs),
     }
 }

@@ -2,16 +2,17 @@
 ghost use Rattle.std.specs.Prelude.{◌≡◌, ◌++◌, IfOk, string_bytes};
 ghost use Rattle.chain_top.specs.Line.{refused_hex, refused_size, refused_file, refused_ledger, refused_block};
 ghost use Rattle.chain_top.specs.Line.{start_words, refusal_words};
-ghost use Rattle.chain_top.specs.Piece.{text_of, text_of_line};
+ghost use Rattle.word_lines.specs.Piece.{text_of, text_of_line};
 ghost use Rattle.chain_top.specs.Refused.{RefusesBy, RefusesLoad, words_of};
 
-use crate::line::Piece::{self, Hex, Kind, Nothing, Number, Why, Word};
-use crate::line::line;
-use crate::load::LoadFault;
 use crate::stop::Stop;
 use data_model::DataKind;
 use ledger_core::{BlockRefusal, StartFault};
-use std::alloc::{AllocError, Global};
+use ledger_file::LoadFault;
+use std::alloc::Global;
+use wire::NoMemory;
+use word_lines::Piece::{self, Hex, Kind, Nothing, Number, Why, Word};
+use word_lines::line;
 
 // The refusal by the line of this head and these words.
 fn refusal(alloc: Global, head: &str, words: &[Piece]) -> Stop
@@ -19,7 +20,7 @@ fn refusal(alloc: Global, head: &str, words: &[Piece]) -> Stop
 {
     match line(alloc, head, words) {
         Ok(line) => Stop::Refused(line),
-        Err(AllocError) => Stop::NoMemory,
+        Err(NoMemory) => Stop::NoMemory,
     }
 }
 
@@ -72,7 +73,7 @@ fn refused_ledger(alloc: Global, index: u64, words: Words<'_>) -> Stop
     )
 }
 
-pub fn refused_block(alloc: Global, refusal: &BlockRefusal) -> Result<String, AllocError>
+pub fn refused_block(alloc: Global, refusal: &BlockRefusal) -> Result<String, NoMemory>
     ensures { IfOk result (λ line. string_bytes line ≡ refused_block refusal.now) }
 {
     let Words(name, first, second) = refusal_words(refusal);

@@ -1,6 +1,4 @@
 // Why a command ends before its last step.
-use std::alloc::AllocError;
-
 /// Why a command ends before its last step.
 #[derive(Drop)]
 pub enum Stop {
@@ -12,17 +10,6 @@ pub enum Stop {
     WriteFault,
     /// Memory was wanted and not found.
     NoMemory,
-}
-
-impl From<AllocError> for Stop {
-    ghost use Rattle.std.specs.Prelude.{◌≡◌};
-    ghost use Rattle.chain_top.specs.declared.stop.Stop.TheVariants as stops;
-
-    ghost from_gives = { λ _ e. e ≡ stops.NoMemory };
-
-    fn from(_: AllocError) -> Stop {
-        Stop::NoMemory
-    }
 }
 
 impl From<wire::NoMemory> for Stop {

@@ -7,13 +7,13 @@ ghost use Rattle.chain_top.specs.Reply.{VmLine, vm_model};
 
 use crate::calls::say;
 use crate::known::known;
-use crate::line::{failed_line, succeeded_line};
+use crate::line::verdict_line;
 use crate::stop::Stop;
 use crate::word::{hex_word, hex_words};
 use keyed::SigCheck;
 use outside::Outside;
 use std::alloc::Global;
-use vm_run::{Context, Verdict, verify};
+use vm_run::{Context, verify};
 use wire::Args;
 
 /// Runs a program with no context on its arguments, and tells the verdict.
@@ -64,8 +64,6 @@ fn line_of_run<C: SigCheck>(
     requires { limit ≤ 100000 }
     ensures { Checked string_bytes (LineOfRun (C.good_of sigs.now) limit program.now args.now) result }
 {
-    match verify(alloc, &Context::Nothing, sigs, program, args, limit)? {
-        Verdict::Succeeded { left } => Ok(succeeded_line(alloc, left)?),
-        Verdict::Failed { kind, at } => Ok(failed_line(alloc, kind, at)?),
-    }
+    let verdict = verify(alloc, &Context::Nothing, sigs, program, args, limit)?;
+    Ok(verdict_line(alloc, verdict)?)
 }

@@ -14,6 +14,8 @@ mod keyed_calls;
 #[cfg(test)]
 mod ledger_core_calls;
 #[cfg(test)]
+mod ledger_files;
+#[cfg(test)]
 mod lms;
 #[cfg(test)]
 mod outside_calls;

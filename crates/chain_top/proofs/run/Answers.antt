@@ -8,5 +8,4 @@ pub returns-in-Init : goal.returns-in-Init
 returns-in-Init g c =
     let hash = g.H.IdHash.hash_of c.args.hash.now in
     let check = g.C.SigCheck.good_of c.args.sigs.now in
-    let done = rw (c.as_str-in-Init.ensures.value, c.as_str-in-Init-2.ensures.value) at c.init.ensures in
-    subst (λ (command : _). Follows (model_of hash check [] (seen command)) (g.O.Outside.io c.args.out.now) (g.O.Outside.io c.init.new.out) c.init.result) (sym c.in-Init.is) done
+    subst (λ (command : _). Follows (model_of hash check [] (seen command)) (g.O.Outside.io c.args.out.now) (g.O.Outside.io c.init.new.out) c.init.result) (sym c.in-Init.is) c.init.ensures

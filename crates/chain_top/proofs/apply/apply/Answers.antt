@@ -43,4 +43,4 @@ pub offer_file-requires-clause-few : goal.offer_file-requires-clause-few
 offer_file-requires-clause-few g c =
     let hash = g.H.IdHash.hash_of c.args.hash.now in
     let check = g.C.SigCheck.good_of c.args.sigs.now in
-    omega (arith, loaded-few hash check 1 _ _ c.in_ok-chain.ensures.ledger, ap length c.as_slice.ensures.value, ap length c.as_slice-2.ensures.value)
+    omega (arith, loaded-few c.known.ensures hash check 1 _ _ c.in_ok-chain.ensures.ledger, ap length c.as_slice.ensures.value, ap length c.as_slice-2.ensures.value)

@@ -1,7 +1,7 @@
 use Rattle.std.proofs.Common.{rules, ◌≡◌, List, [], ◌∷◌, length, sym, ap, subst, arith}
 use Rattle.std.specs.Vec.Iter.{into_iter_items}
 use Rattle.data_model.specs.declared.block.Block.{Block}
-use Rattle.chain_top.specs.Files.{AreFramed}
+use Rattle.ledger_file.specs.Files.{AreFramed}
 use Rattle.chain_top.specs.Offered.{OffersDone}
 use Rattle.chain_top.proofs.Lines.{empty-list}
 use Rattle.chain_top.proofs.Offering.{offered-few, offers-none, offers-more, offers-stopped}

@@ -1,7 +1,7 @@
 use Rattle.std.proofs.Common.{◌+◌, ◌<◌, ◌^◌, length}
 use Rattle.std.specs.Vec.Iter.{into_iter_items, into_iter_len}
 use Rattle.ledger_core.specs.Chain.{StandsFor}
-use Rattle.chain_top.specs.Files.{AreFramed}
+use Rattle.ledger_file.specs.Files.{AreFramed}
 use Rattle.chain_top.proofs.Offering.{OffersOnto}
 use Rattle.chain_top.proofs.apply.offer_all.Given as goal
 

@@ -1,8 +1,8 @@
-use Rattle.std.proofs.Common.{ℕ, List, Ok, Err, subst, ◌∙◌}
-use Rattle.data_model.specs.declared.block.Block.{Block}
+use Rattle.std.proofs.Common.{ℕ, List, Ok, Err, subst}
+use Rattle.std.specs.Vec.Iter.{into_iter_items}
+use Rattle.std.specs.declared.alloc.Global.{Global}
 use Rattle.chain_top.specs.Asking.{Checked}
 use Rattle.chain_top.specs.Loading.{most_bytes, BlocksOf, FitsWith}
-use Rattle.chain_top.specs.Offered.{OffersDone}
 use Rattle.chain_top.specs.Reply.{offered_model}
 use Rattle.chain_top.proofs.Asked.{asked-bytes}
 use Rattle.chain_top.proofs.Asking.{asked-then, asked-stopped, checked-then, checked-stopped, follows-passed}
@@ -29,10 +29,10 @@ returns-in_err-blocks g c =
     let bytes = c.in_ok-bytes.bytes in
     let some = (c.known.ensures.chains hash check).not_empty blocks c.requires.stands.chain in
     let are = asked-bytes _ _ _ _ _ bytes c.in_ok-bytes.ensures.asked in
-    let bad = subst (λ (bs : List ℕ). Checked {T = List Block} (λ x. x) (BlocksOf 2 bs) (Err c.in_err-blocks.field-0.0)) c.as_slice.ensures.value c.in_err-blocks.ensures.blocks in
+    let bad = subst (λ (bs : List ℕ). Checked (into_iter_items {Z = Global}) (BlocksOf 2 bs) (Err c.in_err-blocks.field-0.0)) c.as_slice.ensures.value c.in_err-blocks.ensures.blocks in
     asked-then c.args.offers.now most_bytes 2 (offered_model hash check c.args.ledger.now held blocks) _ _ _ bytes _ c.in_ok-bytes.ensures.asked
     (follows-passed _ _ _ _ _ c.from_residual-in_err-blocks.ensures.1
-    (checked-stopped (BlocksOf 2 bytes.items) _ {U = List Block} (λ x. x) _ _ (offered-model c.known.ensures hash check c.args.ledger.now held blocks some bytes.items are).some_for (g.met.O.Outside.contents_are_bytes c.ask.new.out) bad))
+    (checked-stopped (BlocksOf 2 bytes.items) _ (into_iter_items {Z = Global}) _ _ (offered-model c.known.ensures hash check c.args.ledger.now held blocks some bytes.items are).some_for (g.met.O.Outside.contents_are_bytes c.ask.new.out) bad))
 
 pub returns-in_err-fit_together : goal.returns-in_err-fit_together
 returns-in_err-fit_together g c =
@@ -42,12 +42,12 @@ returns-in_err-fit_together g c =
     let blocks = c.args.chain.now.blocks in
     let bytes = c.in_ok-bytes.bytes in
     let some = (c.known.ensures.chains hash check).not_empty blocks c.requires.stands.chain in
-    let good = subst (λ (bs : List ℕ). BlocksOf 2 bs (Ok c.in_ok-blocks.blocks)) c.as_slice.ensures.value c.in_ok-blocks.ensures.blocks in
+    let good = subst (λ (bs : List ℕ). BlocksOf 2 bs (Ok (into_iter_items c.in_ok-blocks.blocks))) c.as_slice.ensures.value c.in_ok-blocks.ensures.blocks in
     let bad = subst (λ (bs : List ℕ). Checked {T = Unit {0}} (λ u. u) (FitsWith 2 held bs) (Err c.in_err-fit_together.field-0.0)) c.as_slice-2.ensures.value c.in_err-fit_together.ensures in
     asked-then c.args.offers.now most_bytes 2 (offered_model hash check c.args.ledger.now held blocks) _ _ _ bytes _ c.in_ok-bytes.ensures.asked
-    (checked-then (BlocksOf 2 bytes.items) _ _ _ c.in_ok-blocks.blocks _ good
+    (checked-then (BlocksOf 2 bytes.items) _ _ _ (into_iter_items c.in_ok-blocks.blocks) _ good
     (follows-passed _ _ _ _ _ c.from_residual-in_err-fit_together.ensures.1
-    (checked-stopped (FitsWith 2 held bytes.items) _ {U = Unit {0}} (λ u. u) _ _ (fits-model c.known.ensures hash check c.args.ledger.now held bytes.items blocks c.in_ok-blocks.blocks some).some_for (g.met.O.Outside.contents_are_bytes c.ask.new.out) bad)))
+    (checked-stopped (FitsWith 2 held bytes.items) _ {U = Unit {0}} (λ u. u) _ _ (fits-model c.known.ensures hash check c.args.ledger.now held bytes.items blocks (into_iter_items c.in_ok-blocks.blocks) some).some_for (g.met.O.Outside.contents_are_bytes c.ask.new.out) bad)))
 
 pub returns : goal.returns
 returns g c =
@@ -56,11 +56,9 @@ returns g c =
     let held = c.args.held.now in
     let blocks = c.args.chain.now.blocks in
     let bytes = c.in_ok-bytes.bytes in
-    let good = subst (λ (bs : List ℕ). BlocksOf 2 bs (Ok c.in_ok-blocks.blocks)) c.as_slice.ensures.value c.in_ok-blocks.ensures.blocks in
+    let good = subst (λ (bs : List ℕ). BlocksOf 2 bs (Ok (into_iter_items c.in_ok-blocks.blocks))) c.as_slice.ensures.value c.in_ok-blocks.ensures.blocks in
     let fits = subst (λ (bs : List ℕ). FitsWith 2 held bs (Ok tt)) c.as_slice-2.ensures.value c.in_ok-fit_together.ensures in
-    let same = c.into_iter.ensures.rest ∙ c.into_vec.ensures in
-    let offered = subst (λ (bs : List Block). OffersDone hash check c.args.ledger.now blocks bs (g.O.Outside.io c.ask.new.out) (g.O.Outside.io c.offer_all.new.out) c.offer_all.result) same c.offer_all.ensures in
     asked-then c.args.offers.now most_bytes 2 (offered_model hash check c.args.ledger.now held blocks) _ _ _ bytes _ c.in_ok-bytes.ensures.asked
-    (checked-then (BlocksOf 2 bytes.items) _ _ _ c.in_ok-blocks.blocks _ good
+    (checked-then (BlocksOf 2 bytes.items) _ _ _ (into_iter_items c.in_ok-blocks.blocks) _ good
     (checked-then (FitsWith 2 held bytes.items) _ _ _ tt _ fits
-    (offers-follow c.known.ensures hash check c.args.ledger.now blocks c.in_ok-blocks.blocks _ _ _ offered)))
+    (offers-follow c.known.ensures hash check c.args.ledger.now blocks (into_iter_items c.in_ok-blocks.blocks) _ _ _ c.offer_all.ensures)))

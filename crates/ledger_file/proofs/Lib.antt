@@ -1,0 +1,4 @@
+pub mod FewBlocks
+pub mod Lists
+pub mod Loaded
+pub mod Loads

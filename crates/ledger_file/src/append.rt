@@ -1,0 +1,35 @@
+ghost use Rattle.std.specs.Prelude.{◌≡◌};
+ghost use Rattle.data_model.specs.Files.{block_frame};
+ghost use Rattle.data_model.specs.Spelling.{IsBlock};
+ghost use Rattle.outside.specs.Fault.{Counts};
+ghost use Rattle.outside.specs.Files.{Append, Wrote, WriteBegun};
+
+use data_model::{Block, frame};
+use outside::{FileFault, Files};
+use std::alloc::Global;
+use wire::NoMemory;
+
+/// Adds a block at the end of a file, by one append of its frame. A missing file is made.
+///
+/// `Failed` comes only where the count of the files' failed writes rose. The append was begun then, and a front of the
+/// frame may stand in the file. After `NoMemory` nothing was begun, and all is as before.
+pub fn append_block<F: Files>(
+    alloc: Global,
+    files: &mut F,
+    name: &str,
+    block: &Block,
+) -> Result<(), FileFault>
+    requires { IsBlock block.now }
+    ensures contents { Wrote Append name.now (block_frame block.now) result (F.contents files.old)
+        (F.contents files.new) }
+    ensures begun { WriteBegun Append name.now (block_frame block.now) result (F.writes files.old)
+        (F.writes files.new) }
+    ensures reads { F.reads files.new ≡ F.reads files.old }
+    ensures count { Counts (F.write_faults files.old) (F.write_faults files.new) result }
+    ensures read_count { F.read_faults files.new ≡ F.read_faults files.old }
+{
+    match frame(alloc, block) {
+        Ok(frame) => files.append(name, frame.as_slice()),
+        Err(NoMemory) => Err(FileFault::NoMemory),
+    }
+}

@@ -1,0 +1,22 @@
+//! Laws of the definitions, each the contract of a function with nothing to do.
+ghost use Rattle.vm_run.specs.Row.{Check};
+ghost use Rattle.ledger_core.specs.Roots.{Hash};
+ghost use Rattle.ledger_file.specs.Laws.{FewBlocks, LoadLaws};
+
+use data_model::block_files;
+use ledger_core::{growing_chains, one_line, one_refusal};
+
+/// Bytes are the file of one ledger, or have one first fault.
+pub fn one_load()
+    ensures { (hash : Hash) (check : Check) → LoadLaws hash check }
+{
+    block_files();
+    one_line();
+    one_refusal();
+    growing_chains();
+}
+
+/// A file has no more blocks than bytes.
+pub fn few_blocks()
+    ensures { FewBlocks }
+{}

@@ -1,0 +1,8 @@
+//! The words of commands, read as numbers and as bytes, and the lines that commands print, put together of words.
+#![tactic(auto)]
+
+mod lines;
+mod words;
+
+pub use lines::{Piece, line};
+pub use words::{decimal, decimal_within, hex_word, hex_words};
