@@ -10,7 +10,10 @@ use Rattle.ledger_core.specs.declared.refusal.StartFault.TheVariants.{HeightNotO
 use Rattle.ledger_core.specs.declared.refusal.StartFault.TheVariants.{NotEmpty, RootsNotEmpty}
 use Rattle.ledger_core.specs.declared.refusal.StartFault.TheVariants as starts
 use Rattle.ledger_core.specs.declared.refusal.BlockRefusal.{BlockRefusal}
-use Rattle.ledger_core.specs.declared.refusal.BlockRefusal.TheVariants.{B1, B2, B3, B4, B5, B6, B7, B9}
+use Rattle.ledger_core.specs.declared.refusal.BlockRefusal.TheVariants.{B1, B2, B3, B4, B5, B6, B7, B8, B9}
+use Rattle.tx_check.specs.declared.refusal.TxRefusal.{TxRefusal}
+use Rattle.tx_check.specs.declared.refusal.TxRefusal.TheVariants.{X1, X2, X3, X4, X5, X6, X7, X8, X9, X10, X11}
+use Rattle.tx_check.specs.declared.refusal.TxRefusal.TheVariants.{X12, X13, X14}
 use Rattle.wire.specs.Kinds.{kind_name}
 use Rattle.word_lines.specs.Piece.{newline}
 
@@ -73,6 +76,33 @@ id_words_of name first second = name ++ (codes " " ++ (first ++ (codes " " ++ se
 abbrev pub id_words : List ℕ → List ℕ → List ℕ → List ℕ
 id_words name first second = id_words_of name (encode_lower first) (encode_lower second)
 
+-- a name and a number
+abbrev pub number_word : List ℕ → ℕ → List ℕ
+number_word name number = name ++ (codes " " ++ decimal number)
+
+-- why a transaction is refused, with the values
+abbrev pub tx_words : TxRefusal → List ℕ
+tx_words (X1 version) = number_word (codes "X1") version
+tx_words (X2 mintime maxtime) = number_words (codes "X2") mintime maxtime
+tx_words (X3 mintime time) = number_words (codes "X3") mintime time
+tx_words (X4 maxtime time) = number_words (codes "X4") maxtime time
+tx_words (X5 input) = number_word (codes "X5") input
+tx_words X6 = codes "X6"
+tx_words (X7 input) = number_word (codes "X7") input
+tx_words (X8 input) = number_word (codes "X8") input
+tx_words (X9 input) = number_word (codes "X9") input
+tx_words (X10 asset sum_in sum_out) =
+    codes "X10 " ++ (encode_lower asset ++ (codes " " ++ (decimal sum_in ++ (codes " " ++ decimal sum_out))))
+tx_words (X11 input) = number_word (codes "X11") input
+tx_words (X12 input) = number_word (codes "X12") input
+tx_words (X13 output id) = codes "X13 " ++ (decimal output ++ (codes " " ++ encode_lower id))
+tx_words (X14 input kind at) =
+    codes "X14 " ++ (decimal input ++ (codes " " ++ (failure_name kind ++ (codes " " ++ decimal at))))
+
+-- that behind its place in a block
+abbrev pub tx_in_block : ℕ → List ℕ → List ℕ
+tx_in_block place words = codes "B8 " ++ (decimal place ++ (codes " " ++ words))
+
 -- why a block does not extend a chain, with the values
 abbrev pub refusal_words : BlockRefusal → List ℕ
 refusal_words (B1 tip given) = id_words (codes "B1") tip given
@@ -82,6 +112,7 @@ refusal_words (B4 given) = codes "B4 " ++ decimal given
 refusal_words (B5 tip_version given) = number_words (codes "B5") tip_version given
 refusal_words (B6 computed given) = id_words (codes "B6") computed given
 refusal_words (B7 kind at) = codes "B7 " ++ (failure_name kind ++ (codes " " ++ decimal at))
+refusal_words (B8 place refusal) = tx_in_block place (tx_words refusal)
 refusal_words (B9 computed given) = id_words (codes "B9") computed given
 
 -- `refused REFUSAL`

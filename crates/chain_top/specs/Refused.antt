@@ -1,10 +1,11 @@
 -- What a function answers that refuses.
 use Rattle.std.specs.Prelude.{◌≡◌, ℕ, List, ◌++◌, string_bytes}
 use Rattle.chain_top.specs.Loading.{load_line}
-use Rattle.word_lines.specs.Piece.{text_of}
+use Rattle.word_lines.specs.Piece.{joined, text_of}
 use Rattle.ledger_file.specs.declared.fault.LoadFault.{LoadFault}
 use Rattle.ledger_file.specs.declared.fault.LoadFault.TheVariants as faults
 use Rattle.chain_top.specs.declared.refused.Words.{Words}
+use Rattle.chain_top.specs.declared.refused.TxWords.{TxWords}
 use Rattle.chain_top.specs.declared.stop.Stop.{Stop}
 use Rattle.chain_top.specs.declared.stop.Stop.TheVariants as stops
 
@@ -23,4 +24,8 @@ RefusesLoad place fault stop = RefusesBy (load_line place fault) stop
 
 -- the name of a refusal, and its values behind it
 abbrev pub words_of : Words → List ℕ
-words_of words = words.0.now ++ (text_of words.1 ++ text_of words.2)
+words_of words = words.0.now ++ joined words.1
+
+-- the same of a refusal of a transaction
+abbrev pub tx_words_of : TxWords → List ℕ
+tx_words_of words = words.0.now ++ (text_of words.1 ++ (text_of words.2 ++ text_of words.3))

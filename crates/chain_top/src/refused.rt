@@ -1,17 +1,18 @@
 // Refusals of words, of files and of blocks.
 ghost use Rattle.std.specs.Prelude.{◌≡◌, ◌++◌, IfOk, string_bytes};
 ghost use Rattle.chain_top.specs.Line.{refused_hex, refused_size, refused_file, refused_ledger, refused_block};
-ghost use Rattle.chain_top.specs.Line.{start_words, refusal_words};
+ghost use Rattle.chain_top.specs.Line.{start_words, refusal_words, tx_in_block, tx_words};
 ghost use Rattle.word_lines.specs.Piece.{text_of, text_of_line};
-ghost use Rattle.chain_top.specs.Refused.{RefusesBy, RefusesLoad, words_of};
+ghost use Rattle.chain_top.specs.Refused.{RefusesBy, RefusesLoad, words_of, tx_words_of};
 
 use crate::stop::Stop;
 use data_model::DataKind;
 use ledger_core::{BlockRefusal, StartFault};
 use ledger_file::LoadFault;
 use std::alloc::Global;
+use tx_check::TxRefusal;
 use wire::NoMemory;
-use word_lines::Piece::{self, Hex, Kind, Nothing, Number, Why, Word};
+use word_lines::Piece::{self, Hex, Kind, Nothing, Number, Sum, Why, Word};
 use word_lines::line;
 
 // The refusal by the line of this head and these words.
@@ -65,24 +66,30 @@ pub fn refused_load(alloc: Global, place: u64, fault: &LoadFault) -> Stop
 fn refused_ledger(alloc: Global, index: u64, words: Words<'_>) -> Stop
     ensures { RefusesBy (refused_ledger index (words_of words.entry)) result }
 {
-    let Words(name, first, second) = words;
+    let Words(name, [a, b, c, d, e]) = words;
     refusal(
         alloc,
         "refused ledger",
-        &[Number(index), Word(name), first, second],
+        &[Number(index), Word(name), a, b, c, d, e],
     )
 }
 
 pub fn refused_block(alloc: Global, refusal: &BlockRefusal) -> Result<String, NoMemory>
     ensures { IfOk result (λ line. string_bytes line ≡ refused_block refusal.now) }
 {
-    let Words(name, first, second) = refusal_words(refusal);
-    line(alloc, "refused", &[Word(name), first, second])
+    let Words(name, [a, b, c, d, e]) = refusal_words(refusal);
+    line(alloc, "refused", &[Word(name), a, b, c, d, e])
 }
 
-// The name of a refusal, and at most two values behind it.
+// The name of a refusal, and at most five values behind it.
 #[derive(Clone, Copy)]
-struct Words<'a>(&'static str, Piece<'a>, Piece<'a>);
+struct Words<'a>(&'static str, [Piece<'a>; 5]);
+
+fn two<'a>(name: &'static str, first: Piece<'a>, second: Piece<'a>) -> Words<'a>
+    ensures { words_of result ≡ name.now ++ (text_of first.entry ++ text_of second.entry) }
+{
+    Words(name, [first, second, Nothing, Nothing, Nothing])
+}
 
 // Why a block starts no chain.
 fn start_words(fault: StartFault) -> Words<'static>
@@ -96,7 +103,7 @@ fn start_words(fault: StartFault) -> Words<'static>
         StartFault::RootsNotEmpty => "I5",
         StartFault::NoMemory => "",
     };
-    Words(name, Nothing, Nothing)
+    two(name, Nothing, Nothing)
 }
 
 // Why a block does not extend a chain, with the values.
@@ -104,17 +111,58 @@ fn refusal_words(refusal: &BlockRefusal) -> Words<'_>
     ensures { words_of result ≡ refusal_words refusal.now }
 {
     match refusal {
-        BlockRefusal::B1 { tip, given } => Words("B1", Hex(tip), Hex(given)),
-        BlockRefusal::B2 { wanted, given } => Words("B2", Number(*wanted), Number(*given)),
-        BlockRefusal::B3 { tip_time, given } => Words("B3", Number(*tip_time), Number(*given)),
-        BlockRefusal::B4 { given } => Words("B4", Number(*given), Nothing),
-        BlockRefusal::B5 { tip_version, given } => Words(
-            "B5",
-            Number(*tip_version),
-            Number(*given),
-        ),
-        BlockRefusal::B6 { computed, given } => Words("B6", Hex(computed), Hex(given)),
-        BlockRefusal::B7 { kind, at } => Words("B7", Why(*kind), Number(*at)),
-        BlockRefusal::B9 { computed, given } => Words("B9", Hex(computed), Hex(given)),
+        BlockRefusal::B1 { tip, given } => two("B1", Hex(tip), Hex(given)),
+        BlockRefusal::B2 { wanted, given } => two("B2", Number(*wanted), Number(*given)),
+        BlockRefusal::B3 { tip_time, given } => two("B3", Number(*tip_time), Number(*given)),
+        BlockRefusal::B4 { given } => two("B4", Number(*given), Nothing),
+        BlockRefusal::B5 { tip_version, given } => {
+            two("B5", Number(*tip_version), Number(*given))
+        }
+        BlockRefusal::B6 { computed, given } => two("B6", Hex(computed), Hex(given)),
+        BlockRefusal::B7 { kind, at } => two("B7", Why(*kind), Number(*at)),
+        BlockRefusal::B8 { place, refusal } => behind_place(*place, tx_words(refusal)),
+        BlockRefusal::B9 { computed, given } => two("B9", Hex(computed), Hex(given)),
+    }
+}
+
+// The refusal of a transaction, behind its place in a block.
+fn behind_place<'a>(place: u64, words: TxWords<'a>) -> Words<'a>
+    ensures { words_of result ≡ tx_in_block place (tx_words_of words.entry) }
+{
+    let TxWords(name, a, b, c) = words;
+    Words("B8", [Number(place), Word(name), a, b, c])
+}
+
+// The name of a refusal of a transaction, and at most three values behind it.
+#[derive(Clone, Copy)]
+struct TxWords<'a>(&'static str, Piece<'a>, Piece<'a>, Piece<'a>);
+
+// Why a transaction is refused, with the values.
+fn tx_words(refusal: &TxRefusal) -> TxWords<'_>
+    ensures { tx_words_of result ≡ tx_words refusal.now }
+{
+    match refusal {
+        TxRefusal::X1 { version } => TxWords("X1", Number(*version), Nothing, Nothing),
+        TxRefusal::X2 { mintime, maxtime } => {
+            TxWords("X2", Number(*mintime), Number(*maxtime), Nothing)
+        }
+        TxRefusal::X3 { mintime, time } => TxWords("X3", Number(*mintime), Number(*time), Nothing),
+        TxRefusal::X4 { maxtime, time } => TxWords("X4", Number(*maxtime), Number(*time), Nothing),
+        TxRefusal::X5 { input } => TxWords("X5", Number(*input), Nothing, Nothing),
+        TxRefusal::X6 => TxWords("X6", Nothing, Nothing, Nothing),
+        TxRefusal::X7 { input } => TxWords("X7", Number(*input), Nothing, Nothing),
+        TxRefusal::X8 { input } => TxWords("X8", Number(*input), Nothing, Nothing),
+        TxRefusal::X9 { input } => TxWords("X9", Number(*input), Nothing, Nothing),
+        TxRefusal::X10 {
+            asset,
+            sum_in,
+            sum_out,
+        } => TxWords("X10", Hex(asset), Sum(*sum_in), Sum(*sum_out)),
+        TxRefusal::X11 { input } => TxWords("X11", Number(*input), Nothing, Nothing),
+        TxRefusal::X12 { input } => TxWords("X12", Number(*input), Nothing, Nothing),
+        TxRefusal::X13 { output, id } => TxWords("X13", Number(*output), Hex(id), Nothing),
+        TxRefusal::X14 { input, kind, at } => {
+            TxWords("X14", Number(*input), Why(*kind), Number(*at))
+        }
     }
 }

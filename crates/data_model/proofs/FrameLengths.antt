@@ -42,5 +42,5 @@ module _ (numbers : VarintLaws) (strings : VarstringLaws) where
   IsFramed-block block h =
       let header = header_len block.header h.header in
       let args = args_len block.args h.args in
-      let count = numbers.few (length block.txs) (omega (arith, h.txs)) in
-      (h, record { least_at_most = omega arith; at_most = omega (arith, length-append {A = ℕ}); spelled = omega (arith, length-append {A = ℕ}) })
+      let count = numbers.few (length block.txs) (omega (arith, h.txs.count)) in
+      (h, record { least_at_most = omega arith; at_most = omega (arith, h.txs.within, length-append {A = ℕ}); spelled = omega (arith, h.txs.within, length-append {A = ℕ}) })

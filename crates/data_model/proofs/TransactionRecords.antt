@@ -12,7 +12,7 @@ use Rattle.data_model.specs.declared.input.Spend.{Spend}
 use Rattle.data_model.specs.declared.input.Input.{Input}
 use Rattle.data_model.specs.declared.output.Output.{Output}
 use Rattle.data_model.specs.declared.tx.Tx.{Tx}
-use Rattle.data_model.specs.Layout.{greatest, longest, args_layout}
+use Rattle.data_model.specs.Limits.{greatest, longest, args_layout}
 use Rattle.data_model.specs.Transaction.{most_inputs, most_outputs, body_layout, body_parts, issue_layout, issue_parts, spend_layout, spend_parts, input_layout, input_parts, control_layout, control_parts, retire_layout, retire_parts, output_layout, output_parts, tx_layout, tx_parts, tx_spelling}
 use Rattle.data_model.specs.TransactionReading.{body_made, body_at, issue_made, issue_at, control_made, control_at, retire_made, retire_at, spend_of, spend_at, input_at, output_at, tx_of, lists_at, next_tx_at}
 

@@ -1,24 +1,17 @@
 -- Which fields a header and a block have, one after the other.
-use Rattle.std.specs.Prelude.{ℕ, ◌-◌, ◌^◌, List, [], length, None}
+use Rattle.std.specs.Prelude.{ℕ, map, Some}
 use Rattle.wire.specs.Layout.{Layout, Number, Id, Text, Then, Many, Value}
 use Rattle.data_model.specs.declared.header.Header.{Header}
 use Rattle.data_model.specs.declared.block.Block.{Block}
+use Rattle.data_model.specs.Limits.{greatest, longest, args_layout}
+use Rattle.data_model.specs.Transaction.{tx_layout, tx_parts}
 
--- the greatest number, the longest string in bytes, the most arguments, and the most transactions of a block
-abbrev pub greatest : ℕ
-greatest = 2 ^ 63 - 1
-
-abbrev pub longest : ℕ
-longest = 65536
-
-abbrev pub most_args : ℕ
-most_args = 64
-
+-- the most transactions of a block, and the most bytes that they take together
 abbrev pub most_txs : ℕ
-most_txs = 0
+most_txs = 10000
 
-abbrev pub args_layout : Layout
-args_layout = Many most_args None (Text longest)
+abbrev pub most_tx_bytes : ℕ
+most_tx_bytes = 16777216
 
 -- version, height, previous id, time, the two roots, and the next program
 abbrev pub header_layout : Layout
@@ -31,8 +24,11 @@ header_layout =
     (Then Id
     (Text longest))))))
 
+abbrev pub txs_layout : Layout
+txs_layout = Many most_txs (Some most_tx_bytes) tx_layout
+
 abbrev pub block_layout : Layout
-block_layout = Then header_layout (Then args_layout (Number most_txs))
+block_layout = Then header_layout (Then args_layout txs_layout)
 
 -- ---- the values of these fields
 
@@ -52,11 +48,4 @@ header_made v = record {
 }
 
 abbrev pub block_parts : Block → Value block_layout
-block_parts b = (header_parts b.header, (b.args, length b.txs))
-
--- until transactions are read, a block has none
-abbrev pub block_of : Header × (List (List ℕ) × ℕ) → Block
-block_of v = record { header = v.0; args = v.1.0; txs = [] }
-
-abbrev pub block_made : Value block_layout → Block
-block_made v = block_of (header_made v.0, v.1)
+block_parts b = (header_parts b.header, (b.args, map tx_parts b.txs))

@@ -4,7 +4,10 @@ use Rattle.std.specs.List.{flat_map, AllByRecursion}
 use Rattle.wire.specs.Spelling.{varint, varstring}
 use Rattle.data_model.specs.declared.header.Header.{Header}
 use Rattle.data_model.specs.declared.block.Block.{Block}
-use Rattle.data_model.specs.Layout.{longest, most_args, most_txs}
+use Rattle.data_model.specs.declared.tx.Tx.{Tx}
+use Rattle.data_model.specs.Limits.{longest, most_args}
+use Rattle.data_model.specs.Layout.{most_txs, most_tx_bytes}
+use Rattle.data_model.specs.Transaction.{IsTx, tx_spelling}
 
 -- ---- within the limits
 
@@ -23,10 +26,16 @@ pub record IsHeader (header : Header) : Type 0 where
   pub unspent_root : length header.unspent_root ≡ 32
   pub next_program : IsString header.next_program
 
+-- not too many transactions, each within its limits, and not too many bytes of them together
+pub record AreTxs (txs : List Tx) : Type 0 where
+  pub count : length txs ≤ most_txs
+  pub each : AllByRecursion IsTx txs
+  pub within : length (flat_map tx_spelling txs) ≤ most_tx_bytes
+
 pub record IsBlock (block : Block) : Type 0 where
   pub header : IsHeader block.header
   pub args : AreArgs block.args
-  pub txs : length block.txs ≤ most_txs
+  pub txs : AreTxs block.txs
 
 -- ---- the spellings
 
@@ -40,6 +49,10 @@ header_spelling header =
     ++ header.unspent_root
     ++ varstring header.next_program
 
--- the header, the arguments, and how many transactions there are
+-- how many transactions there are, and the transactions
+abbrev pub txs_spelling : List Tx → List ℕ
+txs_spelling txs = varint (length txs) ++ flat_map tx_spelling txs
+
+-- the header, the arguments, and the transactions
 unfoldable pub block_spelling : Block → List ℕ
-block_spelling block = header_spelling block.header ++ args_spelling block.args ++ varint (length block.txs)
+block_spelling block = header_spelling block.header ++ args_spelling block.args ++ txs_spelling block.txs

@@ -11,7 +11,7 @@ use Rattle.data_model.specs.declared.output.Control.{Control}
 use Rattle.data_model.specs.declared.output.Retire.{Retire}
 use Rattle.data_model.specs.declared.output.Output.{Output}
 use Rattle.data_model.specs.declared.tx.Tx.{Tx}
-use Rattle.data_model.specs.Layout.{greatest, longest, args_layout}
+use Rattle.data_model.specs.Limits.{greatest, longest, args_layout}
 
 -- the most inputs and the most outputs of a transaction
 abbrev pub most_inputs : ℕ

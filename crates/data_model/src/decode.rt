@@ -14,7 +14,8 @@ use crate::{Block, DataFault, Tx, block_readings, tx_readings};
 use std::alloc::Global;
 use wire::decode;
 
-/// The block that the bytes spell, all of the bytes.
+/// The block that the bytes spell, all of the bytes. Where its transactions take too many bytes together, the fault
+/// stands at the first byte of the one that passes the limit, unless that one has a fault of its own.
 #[tactic(auto, unfolding(crate::specs::Reading::block_at))]
 pub fn decode_block(alloc: Global, b: &[u8]) -> Result<Block, DataFault>
     // What is read is spelled so.

@@ -1,5 +1,5 @@
 //! Headers and blocks as records: how each is read at a place, and written.
-use crate::{Block, Header, Txs};
+use crate::{Block, Header, Tx};
 use std::alloc::Global;
 use wire::{Bytes, Cursor, DataFault, NoMemory, Record, Writer, layout_readings};
 
@@ -9,7 +9,9 @@ pub(crate) const MAX_STRING_LEN: u64 = 65_536;
 
 pub(crate) const MAX_ARGS: u64 = 64;
 
-const MAX_TXS: u64 = 0;
+const MAX_TXS: u64 = 10_000;
+
+const MAX_TX_BYTES: u64 = 16_777_216;
 
 impl Record for Header {
     ghost use Rattle.wire.specs.FirstFault.{FirstFault};
@@ -77,19 +79,15 @@ impl Record for Block {
     fn read(alloc: Global, cursor: &mut Cursor<'_>) -> Result<Block, DataFault> {
         let header = Header::read(alloc, cursor)?;
         let args = cursor.many::<Bytes>(alloc, MAX_ARGS, None)?;
-        cursor.number(MAX_TXS)?;
-        Ok(Block {
-            header,
-            args,
-            txs: Txs::new(alloc),
-        })
+        let txs = cursor.many::<Tx>(alloc, MAX_TXS, Some(MAX_TX_BYTES))?;
+        Ok(Block { header, args, txs })
     }
 
     #[tactic(auto, unfolding(crate::specs::Spelling::block_spelling))]
     fn write(&self, out: &mut Writer) -> Result<(), NoMemory> {
         self.header.write(out)?;
         out.many(self.args.as_slice())?;
-        out.number(self.txs.len() as u64)
+        out.many(self.txs.as_slice())
     }
 
     fn readings() {

@@ -6,7 +6,7 @@ use Rattle.ledger_core.specs.declared.refusal.BlockRefusal.{BlockRefusal}
 use Rattle.ledger_core.specs.Roots.{Hash}
 use Rattle.ledger_core.specs.Refusal.{Refusal}
 use Rattle.ledger_core.specs.Chain.{Chain, Accepted, after_offer}
-use Rattle.ledger_core.proofs.Refusals.{SomeVerdict, OneVerdict, some_refusal, one_refusal}
+use Rattle.ledger_core.proofs.Refusals.{Known, some_refusal, one_refusal}
 use Rattle.ledger_core.proofs.Chains.{grows}
 
 pub kept : (hash : Hash) (check : Check) (start offers final : List Block) (verdicts : List (Option BlockRefusal)) → Chain hash check start → Accepted hash check start offers final verdicts → Chain hash check final
@@ -21,23 +21,23 @@ still_some : (start : List Block) (offer : Block) (verdict : Option BlockRefusal
 still_some start offer None h = omega (arith, length-append start (offer ∷ []))
 still_some start offer (Some line) h = h
 
-pub some : SomeVerdict → OneVerdict → (hash : Hash) (check : Check) (start offers : List Block) → 0 < length start → (final : List Block) × (verdicts : List (Option BlockRefusal)) × Accepted hash check start offers final verdicts
-some v w hash check start [] h = (start, [], refl)
-some v w hash check start (offer ∷ offers) h =
-    let first = some_refusal v w hash check start offer h in
-    let later = some v w hash check (after_offer start offer first.0) offers (still_some start offer first.0 h) in
+pub some : Known → (hash : Hash) (check : Check) (start offers : List Block) → 0 < length start → (final : List Block) × (verdicts : List (Option BlockRefusal)) × Accepted hash check start offers final verdicts
+some known hash check start [] h = (start, [], refl)
+some known hash check start (offer ∷ offers) h =
+    let first = some_refusal known hash check start offer h in
+    let later = some known hash check (after_offer start offer first.0) offers (still_some start offer first.0 h) in
     (later.0, first.0 ∷ later.1, (first.1, later.2))
 
-pub one : SomeVerdict → OneVerdict → (hash : Hash) (check : Check) (start offers a b : List Block) (u v : List (Option BlockRefusal)) → Accepted hash check start offers a u → Accepted hash check start offers b v → (a ≡ b) × (u ≡ v)
-one s w hash check start [] a b [] [] p q = (p ∙ sym q, refl)
-one s w hash check start [] a b [] (y ∷ v) p q = absurd q
-one s w hash check start [] a b (x ∷ u) v p q = absurd p
-one s w hash check start (offer ∷ offers) a b [] v p q = absurd p
-one s w hash check start (offer ∷ offers) a b (x ∷ u) [] p q = absurd q
-one s w hash check start (offer ∷ offers) a b (x ∷ u) (y ∷ v) p q =
-    let same : x ≡ y = one_refusal s w hash check start offer x y p.0 q.0 in
+pub one : Known → (hash : Hash) (check : Check) (start offers a b : List Block) (u v : List (Option BlockRefusal)) → Accepted hash check start offers a u → Accepted hash check start offers b v → (a ≡ b) × (u ≡ v)
+one known hash check start [] a b [] [] p q = (p ∙ sym q, refl)
+one known hash check start [] a b [] (y ∷ v) p q = absurd q
+one known hash check start [] a b (x ∷ u) v p q = absurd p
+one known hash check start (offer ∷ offers) a b [] v p q = absurd p
+one known hash check start (offer ∷ offers) a b (x ∷ u) [] p q = absurd q
+one known hash check start (offer ∷ offers) a b (x ∷ u) (y ∷ v) p q =
+    let same : x ≡ y = one_refusal known hash check start offer x y p.0 q.0 in
     let there = subst (λ (z : Option BlockRefusal). Accepted hash check (after_offer start offer z) offers b v) (sym same) q.1 in
-    let later = one s w hash check (after_offer start offer x) offers a b u v p.1 there in
+    let later = one known hash check (after_offer start offer x) offers a b u v p.1 there in
     let lists : u ≡ v = later.1 in
     (later.0, cc (same, lists))
 

@@ -3,7 +3,7 @@ use Rattle.std.proofs.Common.{◌≡◌, ◌-◌, ◌<◌, List, [], ◌∷◌, 
 use Rattle.std.specs.Prelude.{slice_get}
 use Rattle.std.proofs.lemmas.Option.{slice_get-get_or}
 use Rattle.data_model.specs.declared.block.Block.{Block}
-use Rattle.ledger_core.specs.Refusal.{tip_of}
+use Rattle.ledger_core.specs.Blocks.{tip_of}
 
 -- a list that is not empty has a last block
 pub some_tip : (blocks : List Block) (other : Block) → 0 < length blocks → tip_of blocks ≡ Some (get_or blocks (length blocks - 1) other)

@@ -1,5 +1,5 @@
 -- What blocks have that start a chain or extend one.
-use Rattle.std.proofs.Common.{◌≡◌, ◌≢◌, ℕ, ◌+◌, ◌≤◌, ◌<◌, List, [], Some, None, refl, sym, ◌∙◌, ap, inl, inr, arith}
+use Rattle.std.proofs.Common.{◌≡◌, ◌≢◌, ℕ, ◌+◌, ◌≤◌, ◌<◌, List, [], ◌∷◌, Some, None, refl, sym, ◌∙◌, ap, inl, inr, arith}
 use Rattle.std.specs.Prelude.{◌⊎◌}
 use Rattle.std.proofs.lemmas.Bool.{cases_lt}
 use Rattle.wire.specs.Tables.{HoldsNot, Tells, First, first_of_later, none_of_parts}
@@ -16,7 +16,8 @@ use Rattle.ledger_core.specs.Start.{start_lines, StartRefusal}
 use Rattle.ledger_core.specs.Refusal.{header_lines, state_lines, ProgramFails, HasVerdictAfter, ValidNext, context_after, run_limit, tip_of}
 use Rattle.ledger_core.specs.Valid.{IsInitial, Extends}
 use Rattle.ledger_core.proofs.Lines.{◌&◌, bytes_decided, nat_decided, nil_decided, same, no_difference}
-use Rattle.ledger_core.proofs.Refusals.{SomeVerdict, OneVerdict, not_failed}
+use Rattle.ledger_core.proofs.RefusedTxs.{valid_txs, no_refused_tx}
+use Rattle.ledger_core.proofs.Refusals.{Known, not_failed}
 
 -- ---- two things that may differ, in one line
 
@@ -81,14 +82,14 @@ module _ (hash : Hash) (check : Check) where
   succeeds tip block h (Failed kind at) has = absurd (h (B7 kind at) (kind, at, has, refl))
 
   abbrev parts_of : (blocks : List Block) (block : Block) (v : ValidNext hash check blocks block) → First (header_lines (header_id hash v.tip.header) (tx_root hash block) v.tip.header block.header) None
-      × First (state_lines hash check blocks v.tip.header block) None
-  parts_of blocks block v = none_of_parts (header_lines (header_id hash v.tip.header) (tx_root hash block) v.tip.header block.header) (state_lines hash check blocks v.tip.header block) v.first
+      × First (ProgramFails hash check v.tip.header block ∷ state_lines hash check blocks block) None
+  parts_of blocks block v = none_of_parts (header_lines (header_id hash v.tip.header) (tx_root hash block) v.tip.header block.header) (ProgramFails hash check v.tip.header block ∷ state_lines hash check blocks block) v.first
 
-  pub next_from : SomeVerdict → (blocks : List Block) (block : Block) → ValidNext hash check blocks block → (tip : Block) × (tip_of blocks ≡ Some tip) × Extends hash check blocks tip block
-  next_from some blocks block v =
+  pub next_from : Known → (blocks : List Block) (block : Block) → ValidNext hash check blocks block → (tip : Block) × (tip_of blocks ≡ Some tip) × Extends hash check blocks tip block
+  next_from known blocks block v =
       let header = (parts_of blocks block v).0 in
       let state = (parts_of blocks block v).1 in
-      let verdict = some (context_after hash v.tip.header block.header) check v.tip.header.next_program block.args run_limit in (
+      let verdict = known.some (context_after hash v.tip.header block.header) check v.tip.header.next_program block.args run_limit in (
         v.tip,
         v.is_tip,
         record {
@@ -98,12 +99,13 @@ module _ (hash : Hash) (check : Check) where
           version = same _ _ _ (nat_decided block.header.version 1) header.1.1.1.0;
           is_tx_root = same _ _ _ (bytes_decided block.header.tx_root _) header.1.1.1.1.1.0;
           succeeds = succeeds v.tip block state.0 verdict.0 verdict.1;
+          txs = valid_txs known.txs hash check blocks block.header.time block.txs state.1.0;
           is_unspent_root = same _ _ _ (bytes_decided block.header.unspent_root _) state.1.1.0;
         },
       )
 
-  pub next_to : OneVerdict → (blocks : List Block) (block : Block) → ((tip : Block) × (tip_of blocks ≡ Some tip) × Extends hash check blocks tip block) → ValidNext hash check blocks block
-  next_to one blocks block h =
+  pub next_to : Known → (blocks : List Block) (block : Block) → ((tip : Block) × (tip_of blocks ≡ Some tip) × Extends hash check blocks tip block) → ValidNext hash check blocks block
+  next_to known blocks block h =
       let x = h.2 in
       let none : HoldsNot {R = BlockRefusal} (λ told. ⊥) = λ told f. f in
       let by_header : First (header_lines (header_id hash h.0.header) (tx_root hash block) h.0.header block.header) None =
@@ -114,15 +116,15 @@ module _ (hash : Hash) (check : Check) where
       & none
       & no_difference _ _ _ x.is_tx_root
       & tt in
-      let by_state : First (state_lines hash check blocks h.0.header block) None =
-      not_failed one hash check h.0.header block x.succeeds.0 x.succeeds.1
-      & none
+      let by_state : First (ProgramFails hash check h.0.header block ∷ state_lines hash check blocks block) None =
+      not_failed known.one hash check h.0.header block x.succeeds.0 x.succeeds.1
+      & no_refused_tx known.txs hash check blocks block.header.time block.txs x.txs
       & no_difference _ _ _ x.is_unspent_root
       & tt in
       record {
         tip = h.0;
         is_tip = h.1;
-        first = first_of_later (header_lines (header_id hash h.0.header) (tx_root hash block) h.0.header block.header) (state_lines hash check blocks h.0.header block) None by_header by_state;
+        first = first_of_later (header_lines (header_id hash h.0.header) (tx_root hash block) h.0.header block.header) (ProgramFails hash check h.0.header block ∷ state_lines hash check blocks block) None by_header by_state;
       }
 
 -- ---- heights

@@ -1,5 +1,5 @@
 -- Chains, and what a list of offers makes of one.
-use Rattle.std.specs.Prelude.{◌≡◌, List, [], ◌∷◌, ◌++◌, Option, Some, None}
+use Rattle.std.specs.Prelude.{◌≡◌, List, [], ◌∷◌, ◌++◌, slice_get, Option, Some, None}
 use Rattle.std.specs.List.{AllByRecursion}
 use Rattle.data_model.specs.declared.block.Block.{Block}
 use Rattle.entry_ids.specs.Entry.{header_id}
@@ -8,7 +8,10 @@ use Rattle.ledger_core.specs.declared.refusal.BlockRefusal.{BlockRefusal}
 use Rattle.ledger_core.specs.Held.{Held, IsSpellable}
 use Rattle.ledger_core.specs.Roots.{Hash, root_of_none}
 use Rattle.ledger_core.specs.Start.{StartRefusal}
-use Rattle.ledger_core.specs.Refusal.{Refusal, ValidNext, tip_of}
+use Rattle.ledger_core.specs.Blocks.{tip_of, txs_of, time_of}
+use Rattle.ledger_core.specs.Refusal.{Refusal, ValidNext}
+use Rattle.ledger_core.specs.State.{id_of}
+use Rattle.ledger_core.specs.Unspent.{unspent_after, used, live_at}
 
 -- each of the later blocks extends those before it
 abbrev pub GoesOn : Hash → Check → List Block → List Block → Type 0
@@ -41,9 +44,12 @@ Accepted hash check blocks (offer ∷ offers) final (verdict ∷ verdicts) =
 -- ---- ledgers
 
 -- A ledger stands for a hash and a check of signatures: its blocks are a chain under them, each within the limits of
--- spelling, and what it keeps is the id of the last one and the root of no ids.
+-- spelling, and what it keeps is what they show.
 pub record StandsFor (hash : Hash) (check : Check) (ledger : Held) : Type 0 where
   pub chain : Chain hash check ledger.blocks
   pub within : AllByRecursion IsSpellable ledger.blocks
   pub tip_id : (tip : Block) → tip_of ledger.blocks ≡ Some tip → ledger.tip_id ≡ header_id hash tip.header
   pub empty_root : ledger.empty_root ≡ root_of_none hash
+  pub initial : ledger.initial ≡ id_of hash (slice_get ledger.blocks 0)
+  pub unspent : ledger.unspent ≡ unspent_after hash (txs_of ledger.blocks)
+  pub live : ledger.live ≡ live_at (time_of (tip_of ledger.blocks)) (used hash (txs_of ledger.blocks))

@@ -6,7 +6,7 @@ use Rattle.ledger_core.specs.declared.refusal.BlockRefusal.{BlockRefusal}
 use Rattle.wire.specs.Tables.{OneAnswer}
 use Rattle.ledger_core.specs.Roots.{Hash, root_of_none}
 use Rattle.ledger_core.specs.Start.{start_lines, StartRefusal}
-use Rattle.ledger_core.specs.Refusal.{block_lines, Refusal, ValidNext, tip_of}
+use Rattle.ledger_core.specs.Refusal.{block_lines, unsealed_lines, Refusal, UnsealedRefusal, ValidNext, tip_of}
 use Rattle.ledger_core.specs.Valid.{IsInitial, Extends}
 use Rattle.ledger_core.specs.Chain.{Chain, Accepted, after_offer}
 
@@ -14,8 +14,11 @@ use Rattle.ledger_core.specs.Chain.{Chain, Accepted, after_offer}
 pub record TableLaws (hash : Hash) (check : Check) : Type 0 where
   pub start : (block : Block) → OneAnswer (start_lines (root_of_none hash) block)
   pub next : (blocks : List Block) (tip block : Block) → OneAnswer (block_lines hash check blocks tip.header block)
+  pub unsealed :
+      (blocks : List Block) (tip block : Block)
+      → OneAnswer (unsealed_lines hash check blocks tip.header block)
 
--- a block that is offered after some blocks has a refusal or none, and no two
+-- a block that is offered after some blocks has a refusal or none, and no two; sealed, and not sealed as yet
 pub record RefusalLaws (hash : Hash) (check : Check) : Type 0 where
   pub some :
       (blocks : List Block) (block : Block)
@@ -25,6 +28,15 @@ pub record RefusalLaws (hash : Hash) (check : Check) : Type 0 where
       (blocks : List Block) (block : Block) (a b : Option BlockRefusal)
       → Refusal hash check blocks block a
       → Refusal hash check blocks block b
+      → a ≡ b
+  pub unsealed_some :
+      (blocks : List Block) (block : Block)
+      → 0 < length blocks
+      → (line : Option BlockRefusal) × UnsealedRefusal hash check blocks block line
+  pub unsealed_one :
+      (blocks : List Block) (block : Block) (a b : Option BlockRefusal)
+      → UnsealedRefusal hash check blocks block a
+      → UnsealedRefusal hash check blocks block b
       → a ≡ b
 
 pub record ValidLaws (hash : Hash) (check : Check) : Type 0 where

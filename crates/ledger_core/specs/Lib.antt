@@ -1,7 +1,12 @@
+pub mod Blocks
+pub mod Unspent
+pub mod State
 pub mod Held
 pub mod Roots
 pub mod Start
 pub mod Refusal
 pub mod Valid
 pub mod Chain
+pub mod Offering
+pub mod Conservation
 pub mod Laws

@@ -1,6 +1,12 @@
--- The two roots that a block names. As yet there are no transactions, so both are the root of no ids.
-use Rattle.std.specs.Prelude.{ℕ, List, []}
+-- The two roots that a block names.
+use Rattle.std.specs.Prelude.{ℕ, List, [], map, ◌++◌}
 use Rattle.data_model.specs.declared.block.Block.{Block}
+use Rattle.data_model.specs.declared.tx.Tx.{Tx}
+use Rattle.entry_ids.specs.Ids.{tx_id}
+use Rattle.merkle.specs.Roots.{list_root, set_root}
+use Rattle.tx_check.specs.View.{Unspent}
+use Rattle.ledger_core.specs.Blocks.{txs_of}
+use Rattle.ledger_core.specs.Unspent.{unspent_after}
 
 -- a hash, as a function of bytes
 abbrev pub Hash : Type 0
@@ -12,8 +18,12 @@ root_of_none hash = hash []
 
 -- the root of the ids of a block's transactions, in order
 abbrev pub tx_root : Hash → Block → List ℕ
-tx_root hash block = root_of_none hash
+tx_root hash block = list_root hash (map (tx_id hash) block.txs)
 
--- the root of the ids of the outputs that are unspent after these blocks and then this one
+-- the ids of outputs
+abbrev pub output_ids : List Unspent → List (List ℕ)
+output_ids outputs = map (λ output. output.id) outputs
+
+-- the root of the set of the ids of the outputs that are unspent after these blocks and then this one
 abbrev pub unspent_root : Hash → List Block → Block → List ℕ
-unspent_root hash blocks block = root_of_none hash
+unspent_root hash blocks block = set_root hash (output_ids (unspent_after hash (txs_of blocks ++ block.txs)))

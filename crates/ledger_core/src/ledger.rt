@@ -1,20 +1,25 @@
 ghost use Rattle.std.specs.Prelude.{◌≡◌, Some};
 ghost use Rattle.data_model.specs.declared.block.Block.{Block};
 ghost use Rattle.data_model.specs.Spelling.{IsString};
+ghost use Rattle.ledger_core.specs.Blocks.{tip_of};
 ghost use Rattle.ledger_core.specs.Held.{IsSpellable};
-ghost use Rattle.ledger_core.specs.Refusal.{tip_of};
 
+use crate::{LiveNonce, Unspent};
 use data_model::{Block, Blocks};
 use std::marker::Model;
 use wire::Id;
 
-/// A chain of blocks, from its initial block on. It is seen as its blocks, the id of the last of them and the root of
-/// no ids, and stands for the hash and the check of signatures that it was made with.
+/// A chain of blocks, from its initial block on, with the outputs that are unspent and the nonces that are live. It
+/// stands for the hash and the check of signatures that it was made with.
 #[derive(Debug, Drop)]
 pub struct Ledger {
     pub(crate) blocks: Blocks,
+    pub(crate) initial: Id,
     pub(crate) tip_id: Id,
     pub(crate) empty_root: Id,
+    // In the order in which they were made.
+    pub(crate) unspent: Vec<Unspent>,
+    pub(crate) live: Vec<LiveNonce>,
 }
 
 impl Model for Ledger {
@@ -26,8 +31,11 @@ impl Model for Ledger {
 
     ghost view = { λ ledger. record {
       blocks = ledger.blocks;
+      initial = ledger.initial;
       tip_id = ledger.tip_id;
       empty_root = ledger.empty_root;
+      unspent = ledger.unspent.items;
+      live = ledger.live.items;
     } };
 
     ghost invariant = { λ ledger. (0 < length ledger.blocks) × AllByRecursion IsSpellable ledger.blocks };

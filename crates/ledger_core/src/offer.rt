@@ -1,16 +1,21 @@
-ghost use Rattle.std.specs.Prelude.{◌≡◌, ◌<◌, ◌≤◌, ◌^◌, ◌++◌, [], ◌∷◌, length, IfOk, IfErr, OnOk, OnErr};
+ghost use Rattle.std.specs.Prelude.{◌≡◌, ◌<◌, ◌≤◌, ◌^◌, ◌++◌, [], ◌∷◌, length, Some, None, IfOk, IfErr, OnOk, OnErr};
+ghost use Rattle.data_model.specs.declared.block.Block.{Block};
 ghost use Rattle.entry_ids.specs.Entry.{header_id};
 ghost use Rattle.vm_run.specs.declared.context.BlockContext.{BlockContext};
-ghost use Rattle.data_model.specs.Layout.{most_txs};
-ghost use Rattle.data_model.specs.Spelling.{IsHeader};
 ghost use Rattle.wire.specs.Tables.{First};
-ghost use Rattle.ledger_core.specs.Roots.{Hash};
-ghost use Rattle.ledger_core.specs.Refusal.{Refuses, ValidNext, Checked, HasVerdictAfter, header_lines};
+ghost use Rattle.ledger_core.specs.Blocks.{tip_of};
+ghost use Rattle.ledger_core.specs.Held.{IsSpellable};
+ghost use Rattle.ledger_core.specs.Roots.{Hash, root_of_none, tx_root};
+ghost use Rattle.ledger_core.specs.Refusal.{Refuses, RefusesUnsealed, UnsealedRefusal, ValidNext, HasVerdictAfter};
+ghost use Rattle.ledger_core.specs.Refusal.{chain_lines, header_lines, state_lines};
 ghost use Rattle.ledger_core.specs.Chain.{StandsFor};
+ghost use Rattle.ledger_core.specs.Offering.{AreAllIds, AreChanges, RefusesBy};
 
+use crate::txs::all_ids;
+use crate::unfinished::Changes;
 use crate::{BlockRefusal, Ledger, OfferFault};
 use data_model::{Block, Header};
-use entry_ids::block_id;
+use entry_ids::{TxIds, block_id};
 use keyed::{IdHash, SigCheck};
 use std::alloc::Global;
 use std::mem::replace;
@@ -39,8 +44,7 @@ impl Ledger {
         block: Block,
     ) -> Result<Accepted, OfferFault>
         requires stands { StandsFor (H.hash_of hash.now) (C.good_of sigs.now) self.old }
-        requires header { IsHeader block.header }
-        requires txs { length block.txs ≤ most_txs }
+        requires within { IsSpellable block }
         requires room { length self.old.blocks < 2 ^ 40 }
         ensures valid { OnOk result (ValidNext (H.hash_of hash.now) (C.good_of sigs.now) self.old.blocks block) }
         ensures added { OnOk result (self.new.blocks ≡ self.old.blocks ++ block ∷ []) }
@@ -52,54 +56,132 @@ impl Ledger {
         ensures stands { StandsFor (H.hash_of hash.now) (C.good_of sigs.now) self.new }
     {
         let mut block = block;
-        let id = self.checked(alloc, hash, sigs, &mut block)?;
+        let (id, changes) = self.checked(alloc, hash, sigs, &mut block)?;
         let height = block.header.height;
-        self.blocks.push(block)?;
-        self.tip_id = id;
+        self.settle(block, id, changes)?;
         Ok(Accepted { height, id })
     }
 
-    // The id of a block that validly extends the chain. Its header is hashed once, and the program is run at most
-    // once. A block that is refused may be left without its program.
+    /// The first refusal of a block whose arguments are not there as yet, or none: the same table without B7. It
+    /// changes nothing.
+    pub fn check_unsealed<H: IdHash, C: SigCheck>(
+        &self,
+        alloc: Global,
+        hash: &H,
+        sigs: &C,
+        block: &Block,
+    ) -> Result<(), OfferFault>
+        requires stands { StandsFor (H.hash_of hash.now) (C.good_of sigs.now) self.now }
+        requires within { IsSpellable block.now }
+        requires room { length self.now.blocks < 2 ^ 40 }
+        ensures valid { OnOk result
+            (UnsealedRefusal (H.hash_of hash.now) (C.good_of sigs.now) self.now.blocks block.now None) }
+        ensures refused { IfErr result
+            (RefusesUnsealed (H.hash_of hash.now) (C.good_of sigs.now) self.now.blocks block.now) }
+    {
+        let ids = self.begun(alloc, hash, block)?;
+        self.changed(alloc, hash, sigs, block, ids.as_slice())?;
+        Ok(())
+    }
+
+    // The id of a block that validly extends the chain, and what its transactions change. Its header and each
+    // transaction are hashed once, and the program is run at most once. A block that is refused may be left without its
+    // program.
     fn checked<H: IdHash, C: SigCheck>(
         &self,
         alloc: Global,
         hash: &H,
         sigs: &C,
         block: &mut Block,
-    ) -> Result<Id, OfferFault>
+    ) -> Result<(Id, Changes), OfferFault>
         requires stands { StandsFor (H.hash_of hash.now) (C.good_of sigs.now) self.now }
-        requires header { IsHeader block.old.header }
+        requires within { IsSpellable block.old }
         requires room { length self.now.blocks < 2 ^ 40 }
-        ensures found { Checked (H.hash_of hash.now) (C.good_of sigs.now) self.now.blocks block.old result }
+        ensures valid { OnOk result
+            (ValidNext (H.hash_of hash.now) (C.good_of sigs.now) self.now.blocks block.old) }
+        ensures id { IfOk result (λ found. found.0 ≡ header_id (H.hash_of hash.now) block.old.header) }
+        ensures changes { IfOk result (λ found. AreChanges (H.hash_of hash.now) block.old.txs found.1) }
+        ensures refused { IfErr result
+            (Refuses (H.hash_of hash.now) (C.good_of sigs.now) self.now.blocks block.old) }
         ensures same { OnOk result (block.new ≡ block.old) }
     {
         one_verdict();
-        let tip = &self.tip_block().header;
-        let empty = self.empty_root;
-        if let Some(line) = before_run(tip, &self.tip_id, &empty, &block.header) {
-            return Err(OfferFault::Refused(line));
-        }
+        let ids = self.begun(alloc, hash, block)?;
         let id = block_id(alloc, hash, &block.header)?;
-        let verdict = verdict_after(alloc, sigs, tip, id, block)?;
+        let verdict = verdict_after(alloc, sigs, &self.tip_block().header, id, block)?;
         if let Verdict::Failed { kind, at } = verdict {
             return Err(OfferFault::Refused(BlockRefusal::B7 { kind, at }));
         }
-        let given = block.header.unspent_root;
-        if given != empty {
-            return Err(OfferFault::Refused(BlockRefusal::B9 {
-                computed: empty,
-                given,
-            }));
+        let changes = self.changed(alloc, hash, sigs, block, ids.as_slice())?;
+        Ok((id, changes))
+    }
+
+    // The ids of the transactions of a block of which none of B1 to B6 holds.
+    fn begun<H: IdHash>(
+        &self,
+        alloc: Global,
+        hash: &H,
+        block: &Block,
+    ) -> Result<Vec<TxIds>, OfferFault>
+        requires root { self.now.empty_root ≡ root_of_none (H.hash_of hash.now) }
+        requires within { IsSpellable block.now }
+        requires room { (tip : Block) → tip_of self.now.blocks ≡ Some tip → tip.header.height < 2 ^ 63 }
+        ensures ids { IfOk result (λ ids. AreAllIds (H.hash_of hash.now) block.now.txs ids.items) }
+        ensures valid { (tip : Block)
+            → tip_of self.now.blocks ≡ Some tip
+            → let root = tx_root (H.hash_of hash.now) block.now in
+            OnOk result (First (header_lines self.now.tip_id root tip.header block.now.header) None) }
+        ensures refused { (tip : Block)
+            → tip_of self.now.blocks ≡ Some tip
+            → let root = tx_root (H.hash_of hash.now) block.now in
+            IfErr result (RefusesBy (header_lines self.now.tip_id root tip.header block.now.header)) }
+    {
+        let tip = &self.tip_block().header;
+        if let Some(line) = before_root(tip, &self.tip_id, &block.header) {
+            return Err(OfferFault::Refused(line));
         }
-        Ok(id)
+        let ids = all_ids(alloc, hash, block.txs.as_slice())?;
+        let computed = self.root_of_txs(alloc, hash, ids.as_slice())?;
+        let given = block.header.tx_root;
+        if given != computed {
+            return Err(OfferFault::Refused(BlockRefusal::B6 { computed, given }));
+        }
+        Ok(ids)
+    }
+
+    // What the transactions of a block change, by their ids, where neither B8 nor B9 holds.
+    fn changed<H: IdHash, C: SigCheck>(
+        &self,
+        alloc: Global,
+        hash: &H,
+        sigs: &C,
+        block: &Block,
+        ids: &[TxIds],
+    ) -> Result<Changes, OfferFault>
+        requires stands { StandsFor (H.hash_of hash.now) (C.good_of sigs.now) self.now }
+        requires within { IsSpellable block.now }
+        requires ids { AreAllIds (H.hash_of hash.now) block.now.txs ids.now }
+        ensures valid { OnOk result
+            (First (state_lines (H.hash_of hash.now) (C.good_of sigs.now) self.now.blocks block.now) None) }
+        ensures changes { IfOk result (AreChanges (H.hash_of hash.now) block.now.txs) }
+        ensures refused { IfErr result (RefusesBy
+            (state_lines (H.hash_of hash.now) (C.good_of sigs.now) self.now.blocks block.now)) }
+    {
+        let time = block.header.time;
+        let changes = self.changes_of(alloc, hash, sigs, time, block.txs.as_slice(), ids)?;
+        let computed = self.root_after(alloc, hash, &changes)?;
+        let given = block.header.unspent_root;
+        if given != computed {
+            return Err(OfferFault::Refused(BlockRefusal::B9 { computed, given }));
+        }
+        Ok(changes)
     }
 }
 
-// The first of B1 to B6 that holds.
-fn before_run(tip: &Header, tip_id: &Id, computed: &Id, header: &Header) -> Option<BlockRefusal>
+// The first of B1 to B4 that holds.
+fn before_root(tip: &Header, tip_id: &Id, header: &Header) -> Option<BlockRefusal>
     requires room { tip.now.height < 2 ^ 63 }
-    ensures { First (header_lines tip_id.now computed.now tip.now header.now) result }
+    ensures { First (chain_lines tip_id.now tip.now header.now) result }
 {
     if header.previous != *tip_id {
         return Some(BlockRefusal::B1 {
@@ -123,12 +205,6 @@ fn before_run(tip: &Header, tip_id: &Id, computed: &Id, header: &Header) -> Opti
     if header.version != 1 {
         return Some(BlockRefusal::B4 {
             given: header.version,
-        });
-    }
-    if header.tx_root != *computed {
-        return Some(BlockRefusal::B6 {
-            computed: *computed,
-            given: header.tx_root,
         });
     }
     None

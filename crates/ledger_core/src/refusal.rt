@@ -2,6 +2,7 @@ ghost use Rattle.std.specs.Prelude.{◌≡◌};
 ghost use Rattle.ledger_core.specs.declared.refusal.OfferFault.TheVariants as offers;
 ghost use Rattle.ledger_core.specs.declared.refusal.StartFault.TheVariants as starts;
 
+use tx_check::TxRefusal;
 use vm_num::Failure;
 use wire::{Id, NoMemory};
 
@@ -23,7 +24,9 @@ pub enum BlockRefusal {
     /// The tip's next program does not succeed on the block's arguments with the limit 10,000: what fails, and at which
     /// place of the program.
     B7 { kind: Failure, at: u64 },
-    // B8, that a transaction is refused, comes with the transactions.
+    /// A transaction is refused, on what the chain and the block's earlier transactions show: its place in the block,
+    /// from 0, and why.
+    B8 { place: u64, refusal: TxRefusal },
     /// The root of the ids of the outputs that are unspent after the block is another one.
     B9 { computed: Id, given: Id },
 }

@@ -32,8 +32,11 @@ impl Ledger {
         blocks.push(initial)?;
         Ok(Ledger {
             blocks,
+            initial: tip_id,
             tip_id,
             empty_root,
+            unspent: Vec::new(alloc),
+            live: Vec::new(alloc),
         })
     }
 }

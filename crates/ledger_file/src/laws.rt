@@ -1,10 +1,10 @@
 //! Laws of the definitions, each the contract of a function with nothing to do.
 ghost use Rattle.vm_run.specs.Row.{Check};
 ghost use Rattle.ledger_core.specs.Roots.{Hash};
-ghost use Rattle.ledger_file.specs.Laws.{FewBlocks, LoadLaws};
+ghost use Rattle.ledger_file.specs.Laws.{FewBlocks, KeepsUnits, LoadLaws};
 
 use data_model::block_files;
-use ledger_core::{growing_chains, one_line, one_refusal};
+use ledger_core::{conserved_units, growing_chains, one_line, one_refusal};
 
 /// Bytes are the file of one ledger, or have one first fault.
 pub fn one_load()
@@ -20,3 +20,11 @@ pub fn one_load()
 pub fn few_blocks()
     ensures { FewBlocks }
 {}
+
+/// Whoever holds a file that loads as a ledger knows that no unit appeared from nothing: of each asset, what is unspent
+/// in it is what was issued in its blocks less what was retired.
+pub fn kept_units()
+    ensures { (hash : Hash) (check : Check) → KeepsUnits hash check }
+{
+    conserved_units();
+}

@@ -11,5 +11,5 @@ mod loading;
 pub use append::append_block;
 pub use data_model::frame;
 pub use fault::LoadFault;
-pub use laws::{few_blocks, one_load};
+pub use laws::{few_blocks, kept_units, one_load};
 pub use loading::load;

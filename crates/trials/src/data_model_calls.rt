@@ -1,12 +1,13 @@
 ghost use Rattle.data_model.specs.Spelling.{IsBlock};
 
+use crate::transactions::{ISSUES, SPENDS};
 use data_model::{
     Block, Control, Ids, Input, Inputs, Issue, Output, OutputBody, Outputs, Retire, Spend, Tx, Txs,
     decode_block, encode_block, encode_header, frame, read_blocks,
 };
 use std::alloc::Global;
 use std::test::Fail;
-use wire::{Args, Bytes, NoMemory};
+use wire::{Args, Bytes, DataFault, DataKind, NoMemory};
 
 // Version 1, height 1, 32 zero bytes, time 1, twice the hash of nothing, the program 51, the arguments 61 and 6263, and
 // no transaction.
@@ -55,6 +56,78 @@ fn blocks_again(rt: HostRuntime) -> Result<(), Fail> {
     assert!(rt; block_again(rt.alloc(), &block)?.as_slice() == BLOCK.as_slice());
     assert!(rt; header_again(rt.alloc(), &block)?.as_slice() == &BLOCK[..101]);
     assert!(rt; is_framed(rt.alloc(), &block));
+    Ok(())
+}
+
+// The header and the arguments of the block, and these bytes behind them.
+fn with(alloc: Global, count: &[u8], first: &[u8], second: &[u8]) -> Result<Bytes, NoMemory> {
+    let mut bytes = Bytes::from_slice(alloc, &BLOCK[..107])?;
+    bytes.extend_from_slice(count)?;
+    bytes.extend_from_slice(first)?;
+    bytes.extend_from_slice(second)?;
+    Ok(bytes)
+}
+
+#[test]
+fn blocks_with_transactions(rt: HostRuntime) -> Result<(), Fail> {
+    let bytes = with(rt.alloc(), b"\x02", ISSUES, SPENDS)?;
+    let block = decode_block(rt.alloc(), bytes.as_slice())?;
+    assert!(rt; block.txs.len() == 2);
+    assert!(rt; block_again(rt.alloc(), &block)?.as_slice() == bytes.as_slice());
+    // behind the length of two bytes
+    let file = frame(rt.alloc(), &block)?;
+    assert!(rt; file.len() == 375 && file.as_slice().starts_with(b"\xf5\x02"));
+    assert!(rt; read_blocks(rt.alloc(), &file)?.len() == 1);
+    Ok(())
+}
+
+// What stands behind the arguments: a count, and what should be two transactions or parts of them; and the fault. The
+// places are those of another program, Python's, which reads by the table of fields.
+const FAULTS: [(&[u8], &[u8], &[u8], u64, DataKind); 10] = [
+    // the count
+    (b"", b"", b"", 107, DataKind::Short),
+    (b"\x80\0", b"", b"", 107, DataKind::NotShortest),
+    (b"\x91\x4e", ISSUES, b"", 107, DataKind::TooBig),
+    // the greatest count, and no transaction
+    (b"\x90\x4e", b"", b"", 109, DataKind::Short),
+    // the second transaction
+    (b"\x02", ISSUES, b"", 192, DataKind::Short),
+    (b"\x02", ISSUES, b"\x01\0\0\0\x01\x02", 197, DataKind::Kind),
+    (
+        b"\x02",
+        ISSUES,
+        b"\x01\0\0\0\x01\0\0\0\0\0\0\0\0\0\0\0\0\0\0\0\0\0\0\0\0\0\0\0\0\0\0\0\0\0\0\0\0\0\0\0",
+        231,
+        DataKind::Zero,
+    ),
+    // bytes behind the end
+    (
+        b"\x02",
+        ISSUES,
+        b"\x01\0\0\0\0\0\0",
+        198,
+        DataKind::Trailing,
+    ),
+    (b"\x01", ISSUES, SPENDS, 192, DataKind::Trailing),
+    (b"\0", ISSUES, b"", 108, DataKind::Trailing),
+];
+
+fn has_fault(alloc: Global, bytes: &[u8], at: u64, kind: DataKind) -> bool {
+    match decode_block(alloc, bytes) {
+        Err(fault) => fault == DataFault::At { at, kind },
+        Ok(_) => false,
+    }
+}
+
+#[test]
+fn faults_of_blocks(rt: HostRuntime) -> Result<(), Fail> {
+    for (count, first, second, at, kind) in &FAULTS {
+        let bytes = with(rt.alloc(), count, first, second)?;
+        assert!(rt;
+            has_fault(rt.alloc(), bytes.as_slice(), *at, *kind),
+            "{bytes:?}"
+        );
+    }
     Ok(())
 }
 

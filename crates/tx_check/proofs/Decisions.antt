@@ -9,7 +9,7 @@ use Rattle.wire.specs.Tables.{Tells, IsLine, HoldsNot, tells_line}
 use Rattle.data_model.specs.declared.output_body.OutputBody.{OutputBody}
 use Rattle.entry_ids.specs.declared.input.Named.{Named}
 use Rattle.tx_check.specs.View.{Unspent}
-use Rattle.tx_check.proofs.FirstPlaces.{failed}
+use Rattle.tx_check.specs.FirstPlaces.{failed}
 
 abbrev pub Decided : Type 0 → Type 0
 Decided P = P ⊎ (P → ⊥)

@@ -5,7 +5,7 @@ use Rattle.std.proofs.lemmas.Option.{slice_get_within, get_or_from_slice_get, sl
 use Rattle.std.proofs.lemmas.Bool.{cases_lt}
 use Rattle.std.proofs.lemmas.List.{length-take, length-map}
 use Rattle.wire.specs.Tables.{Line, HoldsNot}
-use Rattle.tx_check.proofs.FirstPlaces.{StandsAt, NoneBelow, got, one_there}
+use Rattle.tx_check.specs.FirstPlaces.{StandsAt, NoneBelow, got, one_there}
 
 -- it holds of none of so many at the front
 abbrev pub NotBelow : {X : Type 0} → (X → Type 0) → List X → ℕ → Type 0

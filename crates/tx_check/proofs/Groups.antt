@@ -3,7 +3,7 @@ use Rattle.std.proofs.Common.{◌≡◌, ◌++◌, ℕ, List, Option, Some, None
 use Rattle.std.specs.Prelude.{IfOk}
 use Rattle.vm_run.specs.Row.{Check}
 use Rattle.wire.specs.Tables.{Line, First, HoldsNot, first_of_front, first_of_later}
-use Rattle.tx_check.proofs.FirstPlaces.{first_found}
+use Rattle.tx_check.specs.FirstPlaces.{first_found}
 use Rattle.data_model.specs.declared.tx.Tx.{Tx}
 use Rattle.entry_ids.specs.declared.input.Named.{Named}
 use Rattle.entry_ids.specs.Entry.{Hash}

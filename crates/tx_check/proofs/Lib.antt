@@ -2,7 +2,6 @@ pub mod Decisions
 pub mod Everywhere
 pub mod Facts
 pub mod Failing
-pub mod FirstPlaces
 pub mod Groups
 pub mod Limits
 pub mod Named

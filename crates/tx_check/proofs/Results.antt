@@ -12,7 +12,7 @@ use Rattle.entry_ids.specs.Ids.{result_id, result_ids, mux_id}
 use Rattle.tx_check.specs.declared.refusal.TxRefusal.TheVariants.{X13}
 use Rattle.tx_check.specs.View.{State}
 use Rattle.tx_check.specs.Table.{IsTaken}
-use Rattle.tx_check.proofs.FirstPlaces.{StandsAt}
+use Rattle.tx_check.specs.FirstPlaces.{StandsAt}
 use Rattle.tx_check.proofs.Everywhere.{got_along}
 
 counted_from : {X Y : Type 0} (f : ℕ → X → Y) (n : ℕ) (xs : List X) (i : ℕ) (x : X) → slice_get xs i ≡ Some x → slice_get (map (λ (y : ℕ × X). f y.0 y.1) (enumerate_from n xs)) i ≡ Some (f (n + i) x)

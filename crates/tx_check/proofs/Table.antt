@@ -23,7 +23,7 @@ use Rattle.tx_check.specs.Contexts.{InputVerdict, context_at}
 use Rattle.tx_check.specs.View.{State}
 use Rattle.tx_check.specs.Table.{UsesNonce, TellsApart, IsSpend, IsNonce, IssuesAnother, AreUnbalanced, SpendsNone, UsesLive, IsControl, FailsThere, named_by, time_lines, name_lines, asset_lines, state_lines, program_lines, tx_lines, Refusal}
 use Rattle.tx_check.proofs.Decisions.{Decided, bytes_decided, nat_decided, lt_decided, le_decided, nil_decided, not_decided, both_decided, or_decided, contains_decided, named_decided, unspent_decided, decided_line}
-use Rattle.tx_check.proofs.FirstPlaces.{at_first_line, everywhere}
+use Rattle.tx_check.specs.FirstPlaces.{at_first_line, everywhere}
 use Rattle.tx_check.proofs.Verdicts.{OneVerdict}
 
 -- what is said of the lines of a table, one after the other

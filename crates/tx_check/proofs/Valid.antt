@@ -23,7 +23,7 @@ use Rattle.tx_check.specs.View.{State, Holds, IsLive}
 use Rattle.tx_check.specs.Table.{UsesNonce, TellsApart, IsSpend, IsNonce, IssuesAnother, AreUnbalanced, IsUnbalanced, SpendsNone, UsesLive, IsTaken, TakesId, FailsThere, HasUnbalanced, named_by, assets, asset_out, amount_out, units, sum_in, sum_out, tx_lines, TxValid}
 use Rattle.tx_check.specs.Valid.{Valid, NoneTwice, IsBalanced}
 use Rattle.tx_check.proofs.Decisions.{bytes_decided, nat_decided, contains_decided, unspent_decided, stable, same_bytes}
-use Rattle.tx_check.proofs.FirstPlaces.{everywhere}
+use Rattle.tx_check.specs.FirstPlaces.{everywhere}
 use Rattle.tx_check.proofs.Everywhere.{contains_at, place_of, take_has}
 use Rattle.tx_check.proofs.Table.{SomeVerdict, some_apart, succeeds_there}
 use Rattle.tx_check.proofs.Verdicts.{OneVerdict}

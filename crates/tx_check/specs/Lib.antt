@@ -5,3 +5,4 @@ pub mod Parts
 pub mod Table
 pub mod Valid
 pub mod View
+pub mod FirstPlaces

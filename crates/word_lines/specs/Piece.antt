@@ -4,7 +4,7 @@ use Rattle.hex.specs.Hex.{encode_lower}
 use Rattle.vm_num.specs.Failure.{failure_name}
 use Rattle.wire.specs.Kinds.{kind_name}
 use Rattle.word_lines.specs.declared.lines.Piece.{Piece}
-use Rattle.word_lines.specs.declared.lines.Piece.TheVariants.{Nothing, Word, Number, Hex, Kind, Why}
+use Rattle.word_lines.specs.declared.lines.Piece.TheVariants.{Nothing, Word, Number, Sum, Hex, Kind, Why}
 
 abbrev pub newline : List ℕ
 newline = 10 ∷ []
@@ -13,6 +13,7 @@ abbrev pub word_of : Piece → List ℕ
 word_of Nothing = []
 word_of (Word word) = word.now
 word_of (Number number) = decimal number
+word_of (Sum sum) = decimal sum
 word_of (Hex id) = encode_lower id.now
 word_of (Kind kind) = kind_name kind
 word_of (Why failure) = failure_name failure

@@ -16,6 +16,8 @@ pub enum Piece<'a> {
     Word(&'a str),
     /// In decimal.
     Number(u64),
+    /// A sum of amounts, in decimal.
+    Sum(u128),
     /// In lower-case hex.
     Hex(&'a Id),
     /// The name of what is wrong with some bytes.
@@ -63,6 +65,7 @@ fn add_word(alloc: Global, line: &mut String, word: Piece) -> Result<(), AllocEr
         Piece::Nothing => Ok(()),
         Piece::Word(word) => line.push_str(word),
         Piece::Number(number) => line.write(number),
+        Piece::Sum(sum) => line.write(sum),
         Piece::Hex(id) => line.push_str(hex::encode(alloc, id.as_slice())?.as_str()),
         Piece::Kind(kind) => line.write(kind),
         Piece::Why(failure) => line.write(failure),

@@ -25,11 +25,8 @@ frame-requires g c = c.requires.framed.0
 pub offer-requires-clause-stands : goal.offer-requires-clause-stands
 offer-requires-clause-stands g c = c.requires.stands
 
-pub offer-requires-clause-header : goal.offer-requires-clause-header
-offer-requires-clause-header g c = c.requires.framed.0.header
-
-pub offer-requires-clause-txs : goal.offer-requires-clause-txs
-offer-requires-clause-txs g c = c.requires.framed.0.txs
+pub offer-requires-clause-within : goal.offer-requires-clause-within
+offer-requires-clause-within g c = record { header = c.requires.framed.0.header; txs = c.requires.framed.0.txs }
 
 pub offer-requires-clause-room : goal.offer-requires-clause-room
 offer-requires-clause-room g c = c.requires.few

@@ -1,5 +1,5 @@
 use Rattle.std.proofs.Common.{◌∙◌, sym, refl}
-use Rattle.tx_check.proofs.FirstPlaces.{failed, none_more, found_along, nowhere_along}
+use Rattle.tx_check.specs.FirstPlaces.{failed, none_more, found_along, nowhere_along}
 use Rattle.tx_check.proofs.assets.another_asset.Goals as goal
 
 pub returns-then-branch : goal.returns-then-branch

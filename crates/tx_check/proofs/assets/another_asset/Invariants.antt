@@ -1,7 +1,7 @@
 use Rattle.wire.specs.Tables.{Tells}
 use Rattle.tx_check.specs.declared.refusal.TxRefusal.TheVariants.{X9}
 use Rattle.tx_check.specs.Table.{IssuesAnother}
-use Rattle.tx_check.proofs.FirstPlaces.{NoneBelow}
+use Rattle.tx_check.specs.FirstPlaces.{NoneBelow}
 use Rattle.tx_check.proofs.assets.another_asset.Given as goal
 
 abbrev pub invariant-loop-k : goal.invariant-loop-k

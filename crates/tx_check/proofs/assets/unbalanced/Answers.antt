@@ -6,7 +6,7 @@ use Rattle.tx_check.specs.declared.refusal.TxRefusal.{TxRefusal}
 use Rattle.tx_check.specs.FirstPlace.{AtFirst, Found}
 use Rattle.tx_check.specs.Parts.{asset_in}
 use Rattle.tx_check.specs.Table.{IsUnbalanced, HasUnbalanced, asset_out}
-use Rattle.tx_check.proofs.FirstPlaces.{first_of_left, first_of_right, nowhere_in_both}
+use Rattle.tx_check.specs.FirstPlaces.{first_of_left, first_of_right, nowhere_in_both}
 use Rattle.tx_check.proofs.assets.unbalanced.Goals as goal
 
 joined : (tx : Tx) → HoldsNot (AtFirst (λ k asset. IsUnbalanced tx asset) (map asset_in tx.inputs)) → (answer : Option TxRefusal) → Found (AtFirst (λ k asset. IsUnbalanced tx asset) (map asset_out tx.outputs)) answer → Found (HasUnbalanced tx) answer

@@ -2,7 +2,7 @@ use Rattle.std.proofs.Common.{refl}
 use Rattle.std.specs.Prelude.{map}
 use Rattle.tx_check.specs.Parts.{asset_in}
 use Rattle.tx_check.specs.Table.{IsUnbalanced}
-use Rattle.tx_check.proofs.FirstPlaces.{none_more_at, found_at, nowhere}
+use Rattle.tx_check.specs.FirstPlaces.{none_more_at, found_at, nowhere}
 use Rattle.tx_check.proofs.Everywhere.{known, map_along, map_long}
 use Rattle.tx_check.proofs.assets.unbalanced_in.Goals as goal
 

@@ -1,7 +1,7 @@
 use Rattle.std.specs.Prelude.{map}
 use Rattle.tx_check.specs.Parts.{asset_in}
 use Rattle.tx_check.specs.Table.{IsUnbalanced}
-use Rattle.tx_check.proofs.FirstPlaces.{NoneBelow}
+use Rattle.tx_check.specs.FirstPlaces.{NoneBelow}
 use Rattle.tx_check.proofs.assets.unbalanced_in.Given as goal
 
 abbrev pub invariant-loop-k : goal.invariant-loop-k

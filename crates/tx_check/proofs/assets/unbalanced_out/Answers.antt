@@ -6,7 +6,7 @@ use Rattle.tx_check.specs.Parts.{asset_in}
 use Rattle.wire.specs.Tables.{HoldsNot}
 use Rattle.tx_check.specs.Table.{asset_out}
 use Rattle.tx_check.specs.Table.{IsUnbalanced}
-use Rattle.tx_check.proofs.FirstPlaces.{NoneBelow, none_more_at, found_at, nowhere, everywhere}
+use Rattle.tx_check.specs.FirstPlaces.{NoneBelow, none_more_at, found_at, nowhere, everywhere}
 use Rattle.tx_check.proofs.Everywhere.{known, map_along, map_long, place_of}
 use Rattle.tx_check.proofs.assets.unbalanced_out.Goals as goal
 

@@ -1,5 +1,5 @@
 use Rattle.std.proofs.Common.{refl}
-use Rattle.tx_check.proofs.FirstPlaces.{failed, none_more, found_along, nowhere_along}
+use Rattle.tx_check.specs.FirstPlaces.{failed, none_more, found_along, nowhere_along}
 use Rattle.tx_check.proofs.names.endless_nonce.Goals as goal
 
 pub returns-then-is_endless : goal.returns-then-is_endless

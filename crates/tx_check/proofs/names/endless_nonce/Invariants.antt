@@ -2,7 +2,7 @@ use Rattle.std.proofs.Common.{◌≡◌}
 use Rattle.wire.specs.Tables.{Tells}
 use Rattle.tx_check.specs.declared.refusal.TxRefusal.TheVariants.{X5}
 use Rattle.tx_check.specs.Table.{UsesNonce}
-use Rattle.tx_check.proofs.FirstPlaces.{NoneBelow}
+use Rattle.tx_check.specs.FirstPlaces.{NoneBelow}
 use Rattle.tx_check.proofs.names.endless_nonce.Given as goal
 
 abbrev pub invariant-loop-k : goal.invariant-loop-k

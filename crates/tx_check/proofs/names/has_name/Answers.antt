@@ -1,6 +1,6 @@
 use Rattle.std.proofs.Common.{◌≡◌, refl}
 use Rattle.entry_ids.specs.declared.input.Named.{Named}
-use Rattle.tx_check.proofs.FirstPlaces.{failed, read_at}
+use Rattle.tx_check.specs.FirstPlaces.{failed, read_at}
 use Rattle.tx_check.proofs.Everywhere.{not_more, not_contained, contained}
 use Rattle.tx_check.proofs.names.has_name.Goals as goal
 

@@ -1,6 +1,6 @@
 use Rattle.std.proofs.Common.{refl}
 use Rattle.tx_check.specs.Table.{TellsApart}
-use Rattle.tx_check.proofs.FirstPlaces.{failed}
+use Rattle.tx_check.specs.FirstPlaces.{failed}
 use Rattle.tx_check.proofs.Everywhere.{not_more, not_along, got_along}
 use Rattle.tx_check.proofs.names.not_told_apart.Goals as goal
 

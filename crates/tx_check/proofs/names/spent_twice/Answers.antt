@@ -1,6 +1,6 @@
 use Rattle.std.proofs.Common.{refl}
 use Rattle.entry_ids.specs.declared.input.Named.{Named}
-use Rattle.tx_check.proofs.FirstPlaces.{failed, read_at, none_more, found_here}
+use Rattle.tx_check.specs.FirstPlaces.{failed, read_at, none_more, found_here}
 use Rattle.tx_check.proofs.names.spent_twice.Goals as goal
 
 pub returns-then-spends_again : goal.returns-then-spends_again

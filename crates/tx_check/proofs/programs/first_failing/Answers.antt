@@ -1,7 +1,7 @@
 use Rattle.std.proofs.Common.{◌∙◌, sym, subst, arith}
 use Rattle.std.proofs.lemmas.Option.{get_or_from_slice_get, slice_get_within}
 use Rattle.tx_check.specs.Contexts.{FailsAs, InputVerdict}
-use Rattle.tx_check.proofs.FirstPlaces.{none_more, nowhere}
+use Rattle.tx_check.specs.FirstPlaces.{none_more, nowhere}
 use Rattle.tx_check.proofs.Verdicts.{does_not_fail}
 use Rattle.tx_check.proofs.programs.first_failing.Goals as goal
 

@@ -1,6 +1,6 @@
 use Rattle.std.proofs.Common.{◌≡◌}
 use Rattle.tx_check.specs.Contexts.{FailsAs, seen_outputs}
-use Rattle.tx_check.proofs.FirstPlaces.{NoneBelow}
+use Rattle.tx_check.specs.FirstPlaces.{NoneBelow}
 use Rattle.tx_check.proofs.programs.first_failing.Given as goal
 
 abbrev pub invariant-loop-k : goal.invariant-loop-k

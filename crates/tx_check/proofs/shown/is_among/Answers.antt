@@ -1,6 +1,6 @@
 use Rattle.std.proofs.Common.{◌≡◌, [], refl}
 use Rattle.tx_check.proofs.Decisions.{same_bytes, other_bytes}
-use Rattle.tx_check.proofs.FirstPlaces.{failed, read_at}
+use Rattle.tx_check.specs.FirstPlaces.{failed, read_at}
 use Rattle.tx_check.proofs.Everywhere.{not_more, not_contained, contained}
 use Rattle.tx_check.proofs.shown.is_among.Goals as goal
 

@@ -1,7 +1,7 @@
 use Rattle.wire.specs.Tables.{Tells}
 use Rattle.tx_check.specs.declared.refusal.TxRefusal.TheVariants.{X12}
 use Rattle.tx_check.specs.Table.{UsesLive}
-use Rattle.tx_check.proofs.FirstPlaces.{NoneBelow}
+use Rattle.tx_check.specs.FirstPlaces.{NoneBelow}
 use Rattle.tx_check.proofs.shown.live_nonce.Given as goal
 
 abbrev pub invariant-loop-k : goal.invariant-loop-k

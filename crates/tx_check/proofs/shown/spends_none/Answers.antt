@@ -8,7 +8,7 @@ use Rattle.entry_ids.specs.Entry.{Hash}
 use Rattle.entry_ids.specs.Ids.{names, output_id}
 use Rattle.tx_check.specs.View.{Holds}
 use Rattle.tx_check.specs.Table.{SpendsNone}
-use Rattle.tx_check.proofs.FirstPlaces.{failed}
+use Rattle.tx_check.specs.FirstPlaces.{failed}
 use Rattle.tx_check.proofs.shown.spends_none.Goals as goal
 
 name_of_spend : (hash : Hash) (tx : Tx) (spend : Spend) → names hash tx (Input.Spend spend) ≡ Named.Output (output_id hash spend.from)

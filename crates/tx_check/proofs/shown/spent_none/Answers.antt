@@ -1,7 +1,7 @@
 use Rattle.std.proofs.Common.{refl}
 use Rattle.entry_ids.specs.declared.input.Named.{Named}
 use Rattle.entry_ids.specs.Ids.{names}
-use Rattle.tx_check.proofs.FirstPlaces.{StandsAt, failed, none_more, found_along, nowhere_along}
+use Rattle.tx_check.specs.FirstPlaces.{StandsAt, failed, none_more, found_along, nowhere_along}
 use Rattle.tx_check.proofs.Everywhere.{mapped_read}
 use Rattle.tx_check.proofs.shown.spent_none.Goals as goal
 

@@ -3,7 +3,7 @@ use Rattle.wire.specs.Tables.{Tells}
 use Rattle.entry_ids.specs.Entry.{Hash}
 use Rattle.tx_check.specs.declared.refusal.TxRefusal.TheVariants.{X11}
 use Rattle.tx_check.specs.Table.{SpendsNone, named_by}
-use Rattle.tx_check.proofs.FirstPlaces.{NoneBelow}
+use Rattle.tx_check.specs.FirstPlaces.{NoneBelow}
 use Rattle.tx_check.proofs.shown.spent_none.Given as goal
 
 abbrev pub invariant-loop-k : goal.invariant-loop-k

@@ -1,7 +1,7 @@
 use Rattle.std.proofs.Common.{[], refl}
 use Rattle.entry_ids.specs.Ids.{result_ids}
 use Rattle.tx_check.specs.Table.{IsControl}
-use Rattle.tx_check.proofs.FirstPlaces.{StandsAt, failed, none_more, found_along, nowhere_along}
+use Rattle.tx_check.specs.FirstPlaces.{StandsAt, failed, none_more, found_along, nowhere_along}
 use Rattle.tx_check.proofs.Results.{result_read, takes, takes_not}
 use Rattle.tx_check.proofs.shown.taken_id.Goals as goal
 

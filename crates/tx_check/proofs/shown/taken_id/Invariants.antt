@@ -2,7 +2,7 @@ use Rattle.std.proofs.Common.{◌≡◌}
 use Rattle.entry_ids.specs.Entry.{Hash}
 use Rattle.entry_ids.specs.Ids.{result_ids}
 use Rattle.tx_check.specs.Table.{TakesId}
-use Rattle.tx_check.proofs.FirstPlaces.{NoneBelow}
+use Rattle.tx_check.specs.FirstPlaces.{NoneBelow}
 use Rattle.tx_check.proofs.shown.taken_id.Given as goal
 
 abbrev pub invariant-loop-k : goal.invariant-loop-k

@@ -1,5 +1,6 @@
 -- The first place of a list at which a line holds, found one place after the other.
-use Rattle.std.proofs.Common.{◌≡◌, ℕ, zero, suc, ◌+◌, ◌<◌, ◌≤◌, false, List, [], ◌∷◌, ◌++◌, length, get_or, Option, Some, None, refl, sym, ◌∙◌, ap, subst, inl, inr, arith}
+use Rattle.std.proofs.Common.{◌≡◌, ℕ, zero, suc, ◌+◌, ◌<◌, ◌≤◌, false, List, [], ◌∷◌, ◌++◌, length, get_or, Option}
+use Rattle.std.proofs.Common.{Some, None, refl, sym, ◌∙◌, ap, subst, inl, inr, arith}
 use Rattle.std.specs.Prelude.{◌⊎◌, IsTrue, slice_get}
 use Rattle.std.proofs.lemmas.Option.{slice_get_within, slice_get_read}
 use Rattle.std.proofs.lemmas.Bool.{cases_lt}
@@ -41,11 +42,13 @@ module _ {R X : Type 0} (line : ℕ → X → Line R) (xs : List X) where
   pub none_at_start : NoneBelow 0
   none_at_start k other l e = absurd (omega (arith, l))
 
-  next_place : (k i : ℕ) (other x : X) → NoneBelow i → slice_get xs i ≡ Some x → HoldsNot (line i x) → slice_get xs k ≡ Some other → (k < i) ⊎ (i ≡ k) → HoldsNot (line k other)
+  next_place : (k i : ℕ) (other x : X) → NoneBelow i → slice_get xs i ≡ Some x → HoldsNot (line i x)
+      → slice_get xs k ≡ Some other → (k < i) ⊎ (i ≡ k) → HoldsNot (line k other)
   next_place k i other x none there not e (inl less) = none k other less e
   next_place k i other x none there not e (inr same) =
       let here : slice_get xs i ≡ Some other = ap (slice_get xs) same ∙ e in
-      subst (λ (n : ℕ). HoldsNot (line n other)) same (subst (λ (y : X). HoldsNot (line i y)) (sym (one_there xs i x other there here)) not)
+      subst (λ (n : ℕ). HoldsNot (line n other)) same (subst (λ (y : X). HoldsNot (line i y)) (sym
+          (one_there xs i x other there here)) not)
 
   pub none_more_at : (i : ℕ) (x : X) → NoneBelow i → slice_get xs i ≡ Some x → HoldsNot (line i x) → NoneBelow (i + 1)
   none_more_at i x none there not k other l e =
@@ -57,7 +60,8 @@ module _ {R X : Type 0} (line : ℕ → X → Line R) (xs : List X) where
   pub none_more : (i : ℕ) (x : X) → NoneBelow i → StandsAt xs i x → HoldsNot (line i x) → NoneBelow (i + 1)
   none_more i x none s not = none_more_at i x none (got xs i x s) not
 
-  pub found_at : (i : ℕ) (x : X) (told : R) → NoneBelow i → slice_get xs i ≡ Some x → line i x told → AtFirst line xs told
+  pub found_at : (i : ℕ) (x : X) (told : R) → NoneBelow i → slice_get xs i ≡ Some x → line i x told
+      → AtFirst line xs told
   found_at i x told none there h = record {
     place = i;
     item = x;
@@ -77,8 +81,10 @@ module _ {R X : Type 0} (line : ℕ → X → Line R) (xs : List X) where
 
 -- the same by the slice that a loop walks along
 module _ {R X : Type 0} (line : ℕ → X → Line R) (xs slice : List X) (same : slice ≡ xs) where
-  pub found_along : (i : ℕ) (x : X) (told : R) → NoneBelow line slice i → StandsAt slice i x → line i x told → AtFirst line xs told
-  found_along i x told none s h = subst (λ (zs : List X). AtFirst line zs told) same (found_here line slice i x told none s h)
+  pub found_along : (i : ℕ) (x : X) (told : R) → NoneBelow line slice i → StandsAt slice i x → line i x told
+      → AtFirst line xs told
+  found_along i x told none s h =
+      subst (λ (zs : List X). AtFirst line zs told) same (found_here line slice i x told none s h)
 
   pub nowhere_along : (n : ℕ) → length slice ≤ n → NoneBelow line slice n → HoldsNot (AtFirst line xs)
   nowhere_along n past none = subst (λ (zs : List X). HoldsNot (AtFirst line zs)) same (nowhere line slice n past none)
@@ -98,9 +104,12 @@ module _ {R X : Type 0} (line : ℕ → X → Line R) (x : X) (xs : List X) wher
     none_before = λ k other l e. absurd (omega (arith, l));
   }
 
-  not_before : HoldsNot (line 0 x) → (told : R) (first : AtFirst later xs told) (k : ℕ) (other : X) → k < suc first.place → slice_get (x ∷ xs) k ≡ Some other → HoldsNot (line k other)
-  not_before not told first zero other l e = subst (λ (y : X). HoldsNot (line 0 y)) (same_some (Some x) other x e refl) not
-  not_before not told first (suc k) other l e = (let less : k < first.place = omega (arith, l) in first.none_before k other less e)
+  not_before : HoldsNot (line 0 x) → (told : R) (first : AtFirst later xs told) (k : ℕ) (other : X)
+      → k < suc first.place → slice_get (x ∷ xs) k ≡ Some other → HoldsNot (line k other)
+  not_before not told first zero other l e =
+      subst (λ (y : X). HoldsNot (line 0 y)) (same_some (Some x) other x e refl) not
+  not_before not told first (suc k) other l e =
+      (let less : k < first.place = omega (arith, l) in first.none_before k other less e)
 
   pub first_of_tail : HoldsNot (line 0 x) → (told : R) → AtFirst later xs told → AtFirst line (x ∷ xs) told
   first_of_tail not told first = record {
@@ -114,7 +123,8 @@ module _ {R X : Type 0} (line : ℕ → X → Line R) (x : X) (xs : List X) wher
   abbrev Cases : R → Type 0
   Cases told = line 0 x told ⊎ (HoldsNot (line 0 x) × AtFirst later xs told)
 
-  cases_at : (told : R) (k : ℕ) (item : X) → slice_get (x ∷ xs) k ≡ Some item → line k item told → ((j : ℕ) (other : X) → j < k → slice_get (x ∷ xs) j ≡ Some other → HoldsNot (line j other)) → Cases told
+  cases_at : (told : R) (k : ℕ) (item : X) → slice_get (x ∷ xs) k ≡ Some item → line k item told
+      → ((j : ℕ) (other : X) → j < k → slice_get (x ∷ xs) j ≡ Some other → HoldsNot (line j other)) → Cases told
   cases_at told zero item e h none = inl (subst (λ (y : X). line 0 y told) (same_some (Some x) x item refl e) h)
   cases_at told (suc k) item e h none =
       let start : 0 < suc k = omega arith in
@@ -138,7 +148,8 @@ module _ {R X : Type 0} (line : ℕ → X → Line R) (x : X) (xs : List X) wher
     | inr h ↦ none told h.1
   ]
 
-  one_of_cases : IsLine (line 0 x) → ((a b : R) → AtFirst later xs a → AtFirst later xs b → a ≡ b) → (a b : R) → Cases a → Cases b → a ≡ b
+  one_of_cases : IsLine (line 0 x) → ((a b : R) → AtFirst later xs a → AtFirst later xs b → a ≡ b) → (a b : R)
+      → Cases a → Cases b → a ≡ b
   one_of_cases is one a b (inl p) (inl q) = is.one a b p q
   one_of_cases is one a b (inl p) (inr q) = absurd (q.0 a p)
   one_of_cases is one a b (inr p) (inl q) = absurd (p.0 b q)
@@ -160,12 +171,14 @@ nothing_there : {X : Type 0} (k : ℕ) (x : X) → slice_get {X = X} [] k ≡ So
 nothing_there k x e = cc
 
 -- where it is a line at each place, it is one at the first
-pub at_first_line : {R X : Type 0} (line : ℕ → X → Line R) (xs : List X) → ((k : ℕ) (x : X) → slice_get xs k ≡ Some x → IsLine (line k x)) → IsLine (AtFirst line xs)
+pub at_first_line : {R X : Type 0} (line : ℕ → X → Line R) (xs : List X) → ((k : ℕ) (x : X) → slice_get xs k ≡ Some x
+    → IsLine (line k x)) → IsLine (AtFirst line xs)
 at_first_line line [] are = record {
   decided = inr (λ told first. nothing_there first.place first.item first.there);
   one = λ a b p q. absurd (nothing_there p.place p.item p.there);
 }
-at_first_line line (x ∷ xs) are = first_line line x xs (are 0 x refl) (at_first_line (λ k. line (suc k)) xs (λ k other e. are (suc k) other e))
+at_first_line line (x ∷ xs) are =
+    first_line line x xs (are 0 x refl) (at_first_line (λ k. line (suc k)) xs (λ k other e. are (suc k) other e))
 
 -- ---- one list after the other
 
@@ -186,15 +199,19 @@ module _ {R X : Type 0} (line : X → Line R) where
   not_in_tail : (x : X) (xs : List X) → HoldsNot (AtFirst anywhere (x ∷ xs)) → HoldsNot (AtFirst anywhere xs)
   not_in_tail x xs none told first = none told (first_of_tail anywhere x xs (not_at_head x xs none) told first)
 
-  pub first_of_right : (xs ys : List X) (told : R) → HoldsNot (AtFirst anywhere xs) → AtFirst anywhere ys told → AtFirst anywhere (xs ++ ys) told
+  pub first_of_right : (xs ys : List X) (told : R) → HoldsNot (AtFirst anywhere xs) → AtFirst anywhere ys told
+      → AtFirst anywhere (xs ++ ys) told
   first_of_right [] ys told none first = first
   first_of_right (x ∷ xs) ys told none first =
-      first_of_tail anywhere x (xs ++ ys) (not_at_head x xs none) told (first_of_right xs ys told (not_in_tail x xs none) first)
+      first_of_tail anywhere x (xs ++ ys) (not_at_head x xs none) told (first_of_right xs ys told
+          (not_in_tail x xs none) first)
 
-  pub nowhere_in_both : (xs ys : List X) → HoldsNot (AtFirst anywhere xs) → HoldsNot (AtFirst anywhere ys) → HoldsNot (AtFirst anywhere (xs ++ ys))
+  pub nowhere_in_both : (xs ys : List X) → HoldsNot (AtFirst anywhere xs) → HoldsNot (AtFirst anywhere ys)
+      → HoldsNot (AtFirst anywhere (xs ++ ys))
   nowhere_in_both [] ys none others = others
   nowhere_in_both (x ∷ xs) ys none others =
-      nowhere_in_tail anywhere x (xs ++ ys) (not_at_head x xs none) (nowhere_in_both xs ys (not_in_tail x xs none) others)
+      nowhere_in_tail anywhere x (xs ++ ys) (not_at_head x xs none) (nowhere_in_both xs ys
+          (not_in_tail x xs none) others)
 
 -- ---- parts of a table
 
@@ -203,7 +220,8 @@ first_found line None h = (h, tt)
 first_found line (Some told) h = inl h
 
 -- a line that holds, or the next ones
-pub first_or : {R : Type 0} (line : Line R) (lines : List (Line R)) (answer : Option R) → HoldsNot line → First lines answer → First (line ∷ lines) answer
+pub first_or : {R : Type 0} (line : Line R) (lines : List (Line R)) (answer : Option R) → HoldsNot line
+    → First lines answer → First (line ∷ lines) answer
 first_or line lines None not h = (not, h)
 first_or line lines (Some told) not h = inr (not, h)
 
@@ -212,13 +230,16 @@ first_or line lines (Some told) not h = inr (not, h)
 abbrev pub Everywhere : {R X : Type 0} → (ℕ → X → Line R) → List X → Type 0
 Everywhere {R} {X} line xs = (k : ℕ) (x : X) → slice_get xs k ≡ Some x → HoldsNot (line k x)
 
-not_first : {R X : Type 0} (line : ℕ → X → Line R) (y : X) (xs : List X) → HoldsNot (AtFirst line (y ∷ xs)) → HoldsNot (line 0 y)
+not_first : {R X : Type 0} (line : ℕ → X → Line R) (y : X) (xs : List X) → HoldsNot (AtFirst line (y ∷ xs))
+    → HoldsNot (line 0 y)
 not_first line y xs none told h = none told (first_of_head line y xs told h)
 
-not_after : {R X : Type 0} (line : ℕ → X → Line R) (y : X) (xs : List X) → HoldsNot (AtFirst line (y ∷ xs)) → HoldsNot (AtFirst (λ k. line (suc k)) xs)
+not_after : {R X : Type 0} (line : ℕ → X → Line R) (y : X) (xs : List X) → HoldsNot (AtFirst line (y ∷ xs))
+    → HoldsNot (AtFirst (λ k. line (suc k)) xs)
 not_after line y xs none told first = none told (first_of_tail line y xs (not_first line y xs none) told first)
 
-pub everywhere : {R X : Type 0} (line : ℕ → X → Line R) (xs : List X) → HoldsNot (AtFirst line xs) → (k : ℕ) (x : X) → slice_get xs k ≡ Some x → HoldsNot (line k x)
+pub everywhere : {R X : Type 0} (line : ℕ → X → Line R) (xs : List X) → HoldsNot (AtFirst line xs) → (k : ℕ) (x : X)
+    → slice_get xs k ≡ Some x → HoldsNot (line k x)
 everywhere line [] none k x e = absurd (nothing_there k x e)
 everywhere {R} {X} line (y ∷ xs) none zero x e =
     subst (λ (z : X). HoldsNot (line 0 z)) (same_some (Some y) x y e refl) (not_first line y xs none)
