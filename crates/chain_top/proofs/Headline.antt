@@ -11,14 +11,14 @@ use Rattle.outside.specs.Steps.{Read}
 use Rattle.outside.specs.World.{World}
 use Rattle.chain_top.specs.Answer.{Answers, GoesOn}
 use Rattle.chain_top.specs.Asking.{asks, missing, too_long, found, checks, refused, goes_on, IsCheck}
-use Rattle.chain_top.specs.Command.{Command, Vm, Init, Apply, command_of}
+use Rattle.chain_top.specs.Command.{Command, Vm, Init, Apply, Quorum, command_of}
 use Rattle.chain_top.specs.Known.{Known}
 use Rattle.chain_top.specs.Growth.{Grows, GrowthLaws, ApplyFor, appends}
 use Rattle.chain_top.specs.Headline.{DoesReply, Grown, GrowsLedger, FilesRead, OwnRefusal, IsComplete}
 use Rattle.chain_top.specs.Loading.{most_bytes, LedgerOf, BlocksOf, FitsWith}
 use Rattle.chain_top.specs.Offers.{offers_model}
 use Rattle.chain_top.specs.Plan.{Refused, Plan, behind, Given, later, GivenBy}
-use Rattle.chain_top.specs.Reply.{Choice, Reply, misfit, vm_model, init_model, offered_model, offer_file_model, ledger_model, apply_model, ended, reply_of, CommandReply, ReplyFor}
+use Rattle.chain_top.specs.Reply.{Choice, Reply, misfit, vm_model, init_model, quorum_model, offered_model, offer_file_model, ledger_model, apply_model, ended, reply_of, CommandReply, ReplyFor}
 use Rattle.chain_top.specs.Steps.{reads_of, writes_of}
 use Rattle.chain_top.specs.Whole.{IsWhole, ReplyLaws, AnswerLaws}
 use Rattle.word_lines.specs.Word.{Word}
@@ -39,6 +39,10 @@ comes_vm check limit program args given plan (goes_on line good is) = inl (ap (�
 comes_init : (hash : Hash) (ledger : Word) (time : ℕ) (program : Word) (given : Given) (plan : Plan) → init_model hash ledger time program given plan → Comes (Init ledger time program) (reply_of plan)
 comes_init hash ledger time program given plan (refused {line = line} bad) = inr (ap (λ (l : List ℕ). ended [] (Refused l)) bad.1)
 comes_init hash ledger time program given plan (goes_on code good is) = inl (ap (λ (p : Plan). (reply_of p).status) is)
+
+comes_quorum : (m : ℕ) (keys : List Word) (given : Given) (plan : Plan) → quorum_model m keys given plan → Comes (Quorum m keys) (reply_of plan)
+comes_quorum m keys given plan (refused {line = line} (place, is, same)) = inr (place, ap (λ (l : List ℕ). ended [] (Refused l)) same)
+comes_quorum m keys given plan (goes_on items good is) = inl (ap (λ (p : Plan). (reply_of p).status) is)
 
 -- a file that is there, within the size
 module _ (name : List ℕ) (most place : ℕ) (next : List ℕ → Given → Plan → Type 0) (given : Given) (bytes : List ℕ) (there : given 0 ≡ Some bytes) (fits : length bytes ≤ most) where
@@ -125,6 +129,7 @@ module _ (replies : (hash : Hash) (check : Check) → ReplyLaws hash check) (ans
         comes : (contents : List ℕ → Content) (command : Command) (reply : Reply) → FilesRead hash check command contents → (given : Given) × CommandReply hash check choice (Some command) given reply × GivenBy (Some contents) (reads_of reply.steps) given → Comes command reply
         comes contents (Vm limit program args) reply read (given, (plan, is, same), agrees) = subst (Comes (Vm limit program args)) (sym same) (comes_vm check limit program args given plan is)
         comes contents (Init ledger time program) reply read (given, (plan, is, same), agrees) = subst (Comes (Init ledger time program)) (sym same) (comes_init hash ledger time program given plan is)
+        comes contents (Quorum m keys) reply read (given, (plan, is, same), agrees) = subst (Comes (Quorum m keys)) (sym same) (comes_quorum m keys given plan is)
         comes contents (Apply ledger offers) reply ((held, (there, short), (old, good)), (more, (here, small), (offered, fine))) (given, (plan, is, same), agrees) =
             let on = plan_reads contents given plan reply same agrees in
             let first : given 0 ≡ Some held = given_first laws hash check ledger offers contents given plan is on ∙ there in

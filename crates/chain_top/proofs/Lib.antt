@@ -14,3 +14,4 @@ pub mod Models
 pub mod Offering
 pub mod VmLines
 pub mod Wholly
+pub mod Keys

@@ -9,14 +9,16 @@ use Rattle.ledger_core.specs.Refusal.{Hash, Refusal}
 use Rattle.outside.specs.Bytes.{AreBytes}
 use Rattle.outside.specs.Steps.{Step, Print}
 use Rattle.chain_top.specs.Asking.{checks, IsModel, IsCheck}
-use Rattle.chain_top.specs.Command.{Command, Vm, Init, Apply}
+use Rattle.chain_top.specs.Command.{Command, Vm, Init, Apply, Quorum}
 use Rattle.chain_top.specs.Known.{Known}
 use Rattle.chain_top.specs.Initial.{initial_block}
 use Rattle.chain_top.specs.Line.{refused_hex, refused_size, refused_block}
 use Rattle.ledger_file.specs.Loading.{LoadsAs, chain}
 use Rattle.chain_top.specs.Loading.{most_bytes, LedgerOf, BlocksOf, FitsWith}
 use Rattle.chain_top.specs.Offers.{OfferOwes, accepted, refused, OffersOwe, none, next, offers_model}
-use Rattle.chain_top.specs.Reply.{Choice, VmLine, vm_model, HexOf, init_steps, init_model, offered_model, offer_file_model, ledger_model, apply_model, model_of}
+use Rattle.chain_top.specs.Reply.{Choice, VmLine, vm_model, HexOf, init_steps, init_model, quorum_steps, quorum_model, offered_model, offer_file_model, ledger_model, apply_model, model_of}
+use Rattle.word_lines.specs.Word.{hex_words}
+use Rattle.chain_top.specs.Reading.{WordsOf}
 use Rattle.chain_top.specs.Steps.{reads_of}
 use Rattle.word_lines.specs.Word.{Word, hex_of}
 use Rattle.chain_top.proofs.Asking.{asks-model, checks-model, steps-model, known-model}
@@ -37,6 +39,19 @@ hex_check place word = record { some = by_word (hex_of word) refl; one = alike }
     alike (Ok a) (Err l) p q = (let e = q.0 in cc)
     alike (Err l) (Ok b) p q = (let e = p.0 in cc)
     alike (Err l) (Err m) p q = ap (λ (x : List ℕ). Err x) (p.1 ∙ sym q.1)
+
+pub words_check : (place : ℕ) (words : List Word) → IsCheck (WordsOf place words)
+words_check place words = record { some = by_words (hex_words place words) refl; one = alike }
+  where
+    by_words : (items : Result (List (List ℕ)) ℕ) → hex_words place words ≡ items → (r : Result (List (List ℕ)) (List ℕ)) × WordsOf place words r
+    by_words (Err at) is = (Err (refused_hex at), (at, is, refl))
+    by_words (Ok items) is = (Ok items, is)
+
+    alike : (r s : Result (List (List ℕ)) (List ℕ)) → WordsOf place words r → WordsOf place words s → r ≡ s
+    alike (Ok a) (Ok b) p q = cc
+    alike (Ok a) (Err l) p q = (let e = q.1 in cc)
+    alike (Err l) (Ok b) p q = (let e = p.1 in cc)
+    alike (Err l) (Err m) (j, p, is) (k, q, be) = (let same : j ≡ k = cc in ap (λ (x : List ℕ). Err x) (is ∙ ap refused_hex same ∙ sym be))
 
 fits_check : (place : ℕ) (first second : List ℕ) → IsCheck (FitsWith place first second)
 fits_check place first second = record { some = by_size (nat_le (length first + length second) most_bytes) refl; one = alike }
@@ -107,6 +122,9 @@ vm-model laws check limit program args = checks-model (VmLine check limit progra
 pub init-model : (hash : Hash) (ledger : Word) (time : ℕ) (program : Word) → IsModel (init_model hash ledger time program)
 init-model hash ledger time program = checks-model (HexOf 3 program) _ (hex_check 3 program) (λ code is. known-model (init_steps hash ledger (initial_block hash time code)) refl)
 
+pub quorum-model : (m : ℕ) (keys : List Word) → IsModel (quorum_model m keys)
+quorum-model m keys = checks-model (WordsOf 2 keys) _ (words_check 2 keys) (λ items is. known-model (quorum_steps items m) refl)
+
 ledger_some : Known → (hash : Hash) (check : Check) (bytes : List ℕ) (blocks : List Block) → LoadsAs hash check bytes (Ok blocks) → 0 < length blocks
 ledger_some laws hash check bytes blocks (chain reads front) = (laws.chains hash check).not_empty blocks front
 
@@ -131,3 +149,4 @@ pub command-model : Known → (hash : Hash) (check : Check) (choice : Choice) (c
 command-model laws hash check choice (Vm limit program args) = vm-model laws check limit program args
 command-model laws hash check choice (Init ledger time program) = init-model hash ledger time program
 command-model laws hash check choice (Apply ledger offers) = apply-model laws hash check ledger offers
+command-model laws hash check choice (Quorum m keys) = quorum-model m keys

@@ -10,7 +10,7 @@ use Rattle.outside.specs.Files as files
 use Rattle.outside.specs.World.{World}
 use Rattle.chain_top.specs.Answer.{HasStatus, whole, read_fault, write_fault, no_memory, Answers, HasCauses}
 use Rattle.chain_top.specs.Asking.{PlanFor}
-use Rattle.chain_top.specs.Command.{Command, Vm, Init, Apply, command_of}
+use Rattle.chain_top.specs.Command.{Command, Vm, Init, Apply, Quorum, command_of}
 use Rattle.chain_top.specs.Known.{Known}
 use Rattle.chain_top.specs.Plan.{End, Done, Refused, Missing, Plan, Given, AreBytesGiven, GivenBy}
 use Rattle.chain_top.specs.Reply.{Choice, Reply, model_of, ended, reply_of, usage_reply, CommandReply, IsReply, ReplyFor}
@@ -60,6 +60,7 @@ any_choice hash check choice other None given reply is = is
 any_choice hash check choice other (Some (Vm limit program args)) given reply is = is
 any_choice hash check choice other (Some (Init ledger time program)) given reply is = is
 any_choice hash check choice other (Some (Apply ledger offers)) given reply is = is
+any_choice hash check choice other (Some (Quorum m keys)) given reply is = is
 
 pub reply_laws : Known → (hash : Hash) (check : Check) → ReplyLaws hash check
 reply_laws laws hash check = record {

@@ -1,5 +1,6 @@
 -- The grammar of words.
-use Rattle.std.specs.Prelude.{ℕ, List, [], ◌∷◌, Option, Some, None, if◌then◌else◌, bytes_eq, codes}
+use Rattle.std.specs.Prelude.{ℕ, ◌&&◌, List, [], ◌∷◌, length, Option, Some, None}
+use Rattle.std.specs.Prelude.{if◌then◌else◌, bytes_eq, codes, nat_le}
 use Rattle.std.specs.Option.{option_map}
 use Rattle.word_lines.specs.Word.{Word, decimal_within, decimal_most}
 
@@ -11,6 +12,8 @@ pub data Command : Type 0 where
   Init : (ledger : Word) (time : ℕ) (program : Word) → Command
   -- the ledger's name and that of the file of offers
   Apply : (ledger offers : Word) → Command
+  -- how many of the keys are asked for, and the keys
+  Quorum : (m : ℕ) (keys : List Word) → Command
 
 -- until predicates run in frames of their own, a limit is at most 100,000
 abbrev pub limit_most : ℕ
@@ -32,6 +35,17 @@ abbrev pub apply_words : List Word → Option Command
 apply_words (ledger ∷ offers ∷ []) = Some (Apply ledger offers)
 apply_words words = None
 
+-- from 1 to 16 keys, and from 1 to their number of them asked for
+abbrev pub quorum_asked : List Word → Option ℕ → Option Command
+quorum_asked keys None = None
+quorum_asked keys (Some m) =
+    if nat_le 1 m && (nat_le m (length keys) && nat_le (length keys) 16) then Some (Quorum m keys) else None
+
+-- `quorum M KEY [KEY]...`
+abbrev pub quorum_words : List Word → Option Command
+quorum_words [] = None
+quorum_words (m ∷ keys) = quorum_asked keys (decimal_within decimal_most m)
+
 -- the command that words say; there is none where they are outside the grammar
 abbrev pub command_of : List Word → Option Command
 command_of [] = None
@@ -40,4 +54,6 @@ command_of (name ∷ words) =
     then vm_words words
     else (if bytes_eq name (codes "init")
     then init_words words
-    else (if bytes_eq name (codes "apply") then apply_words words else None))
+    else (if bytes_eq name (codes "apply")
+    then apply_words words
+    else (if bytes_eq name (codes "quorum") then quorum_words words else None)))

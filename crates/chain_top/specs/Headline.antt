@@ -6,7 +6,7 @@ use Rattle.vm_run.specs.Row.{Check}
 use Rattle.outside.specs.Files.{Content}
 use Rattle.outside.specs.Steps.{Read}
 use Rattle.outside.specs.World.{World}
-use Rattle.chain_top.specs.Command.{Command, Vm, Init, Apply, command_of}
+use Rattle.chain_top.specs.Command.{Command, Vm, Init, Apply, Quorum, command_of}
 use Rattle.chain_top.specs.Growth.{Grows, EndsGrown}
 use Rattle.chain_top.specs.Line.{refused_hex, refused_size}
 use Rattle.chain_top.specs.Loading.{most_bytes, LedgerOf, BlocksOf}
@@ -57,6 +57,7 @@ HasFile content bytes = (content ≡ Some bytes) × (length bytes ≤ most_bytes
 abbrev pub FilesRead : Hash → Check → Command → (List ℕ → Content) → Type 0
 FilesRead hash check (Vm limit program args) contents = Unit {0}
 FilesRead hash check (Init ledger time program) contents = Unit {0}
+FilesRead hash check (Quorum m keys) contents = Unit {0}
 FilesRead hash check (Apply ledger offers) contents =
     ((bytes : List ℕ)
     × HasFile (contents ledger) bytes
@@ -67,6 +68,7 @@ FilesRead hash check (Apply ledger offers) contents =
 abbrev pub OwnRefusal : Command → Reply → Type 0
 OwnRefusal (Vm limit program args) reply = (place : ℕ) × (reply ≡ ended [] (Refused (refused_hex place)))
 OwnRefusal (Init ledger time program) reply = reply ≡ ended [] (Refused (refused_hex 3))
+OwnRefusal (Quorum m keys) reply = (place : ℕ) × (reply ≡ ended [] (Refused (refused_hex place)))
 OwnRefusal (Apply ledger offers) reply =
     reply ≡ ended (Read ledger most_bytes ∷ Read offers most_bytes ∷ []) (Refused (refused_size 2))
 

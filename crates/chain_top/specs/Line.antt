@@ -43,6 +43,13 @@ accepted_line_of height hex = codes "accepted " ++ (decimal height ++ (codes " "
 abbrev pub accepted_line : ℕ → List ℕ → List ℕ
 accepted_line height id = accepted_line_of height (encode_lower id)
 
+-- `program HEX`, the program in hex, of any length
+abbrev pub program_line_of : List ℕ → List ℕ
+program_line_of hex = codes "program " ++ (hex ++ newline)
+
+abbrev pub program_line : List ℕ → List ℕ
+program_line program = program_line_of (encode_lower program)
+
 -- ---- refusals
 
 -- `refused size K`

@@ -1,4 +1,4 @@
--- What the parts of the command `vm` answer.
+-- What parts of the commands `vm` and `quorum` answer.
 use Rattle.std.specs.Prelude.{◌≡◌, ℕ, List, Result, Ok, Err}
 use Rattle.vm_num.specs.Item.{Item}
 use Rattle.vm_run.specs.Row.{Check}

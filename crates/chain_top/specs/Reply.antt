@@ -11,14 +11,16 @@ use Rattle.vm_run.specs.declared.context.Context.TheVariants.{Nothing}
 use Rattle.vm_run.specs.declared.verdict.Verdict.{Verdict}
 use Rattle.vm_run.specs.Verdict.{HasVerdict}
 use Rattle.chain_top.specs.Asking.{asks, checks}
-use Rattle.chain_top.specs.Command.{Command, Vm, Init, Apply, command_of}
+use Rattle.chain_top.specs.Command.{Command, Vm, Init, Apply, Quorum, command_of}
 use Rattle.data_model.specs.Files.{block_frame}
 use Rattle.chain_top.specs.Initial.{initial_block}
-use Rattle.chain_top.specs.Line.{usage_line, refused_hex, verdict_line, block_line}
+use Rattle.chain_top.specs.Line.{usage_line, refused_hex, verdict_line, block_line, program_line}
 use Rattle.chain_top.specs.Loading.{most_bytes, LedgerOf, BlocksOf, FitsWith}
 use Rattle.chain_top.specs.Offers.{offers_model}
 use Rattle.chain_top.specs.Plan.{End, Done, Refused, Missing, Plan, done, Given, GivenBy}
+use Rattle.chain_top.specs.Reading.{WordsOf}
 use Rattle.chain_top.specs.Steps.{reads_of}
+use Rattle.vote_book.specs.Quorum.{quorum_of}
 use Rattle.word_lines.specs.Word.{Word, hex_of, hex_words}
 
 -- The status, and what is read, written and printed, in order. The printed lines with the number of writes before each,
@@ -92,10 +94,19 @@ ledger_model hash check ledger offers held =
 abbrev pub apply_model : Hash → Check → Word → Word → Given → Plan → Type 0
 apply_model hash check ledger offers = asks ledger most_bytes 1 (ledger_model hash check ledger offers)
 
+-- the program of a quorum is told
+abbrev pub quorum_steps : List (List ℕ) → ℕ → List Step
+quorum_steps keys m = Print (program_line (quorum_of keys m)) ∷ []
+
+-- `quorum M KEY [KEY]...`
+abbrev pub quorum_model : ℕ → List Word → Given → Plan → Type 0
+quorum_model m words = checks (WordsOf 2 words) (λ keys given plan. plan ≡ done (quorum_steps keys m))
+
 abbrev pub model_of : Hash → Check → Choice → Command → Given → Plan → Type 0
 model_of hash check choice (Vm limit program args) = vm_model check limit program args
 model_of hash check choice (Init ledger time program) = init_model hash ledger time program
 model_of hash check choice (Apply ledger offers) = apply_model hash check ledger offers
+model_of hash check choice (Quorum m keys) = quorum_model m keys
 
 -- ---- replies
 

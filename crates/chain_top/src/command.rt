@@ -1,12 +1,15 @@
 // The grammar of words.
 ghost use Rattle.std.specs.Prelude.{◌≡◌, ◌+◌, ◌<◌, ◌^◌, length, map, string_bytes, IfSome};
-ghost use Rattle.chain_top.specs.Command.{command_of, vm_words, init_words, apply_words};
+ghost use Rattle.chain_top.specs.Command.{command_of, vm_words, init_words, apply_words, quorum_words};
 ghost use Rattle.chain_top.specs.Seen.{seen_command, HasLimit};
 
 use word_lines::{decimal, decimal_within};
 
 // Until predicates run in frames of their own, a limit is at most 100,000.
 const LIMIT_MOST: u64 = 100_000;
+
+// The keys that a quorum has at most.
+const KEYS_MOST: usize = 16;
 
 /// A command with the words that it takes.
 #[derive(Clone, Copy)]
@@ -28,6 +31,11 @@ pub enum Command<'a> {
         ledger: &'a str,
         offers: &'a str,
     },
+    /// How many of the keys are asked for, and the keys, from 1 to 16.
+    Quorum {
+        m: u64,
+        keys: &'a [String],
+    },
 }
 
 /// The command that words say, or none where they are outside the grammar.
@@ -40,6 +48,7 @@ pub fn command_of(words: &[String]) -> Option<Command<'_>>
         "vm" => vm_words(rest),
         "init" => init_words(rest),
         "apply" => apply_words(rest),
+        "quorum" => quorum_words(rest),
         _ => None,
     }
 }
@@ -87,6 +96,22 @@ fn apply_words(words: &[String]) -> Option<Command<'_>>
             ledger: ledger.as_str(),
             offers: offers.as_str(),
         }),
+        _ => None,
+    }
+}
+
+fn quorum_words(words: &[String]) -> Option<Command<'_>>
+    ensures reads { seen_command result ≡ quorum_words (map string_bytes words.now) }
+    ensures limit { HasLimit result }
+{
+    match words {
+        [m, keys @ ..] => {
+            let m = decimal(m.as_str())?;
+            if m == 0 || m > keys.len() as u64 || keys.len() > KEYS_MOST {
+                return None;
+            }
+            Some(Command::Quorum { m, keys })
+        }
         _ => None,
     }
 }

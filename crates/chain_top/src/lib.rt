@@ -18,6 +18,7 @@ mod init;
 mod known;
 pub mod laws;
 mod line;
+mod quorum;
 mod refused;
 mod status;
 mod stop;
@@ -33,6 +34,7 @@ use known::known;
 use laws::{growing_ledgers, one_reply, whole_answers};
 use line::USAGE_LINE;
 use outside::{Both, Files, Outside, Sink};
+use quorum::quorum;
 use status::{USAGE, closed, status_of};
 use std::alloc::Global;
 use stop::Stop;
@@ -163,5 +165,6 @@ fn run<O: Outside, H: IdHash, C: SigCheck>(
             program,
         } => init(alloc, ledger, time, program, out, hash),
         Command::Apply { ledger, offers } => apply(alloc, ledger, offers, out, hash, sigs),
+        Command::Quorum { m, keys } => quorum(alloc, m, keys, out),
     }
 }

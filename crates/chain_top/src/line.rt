@@ -1,6 +1,6 @@
 // Printed lines, each with its newline.
 ghost use Rattle.std.specs.Prelude.{◌≡◌, IfOk, string_bytes};
-ghost use Rattle.chain_top.specs.Line.{verdict_line, block_line, accepted_line};
+ghost use Rattle.chain_top.specs.Line.{verdict_line, block_line, accepted_line, program_line};
 
 use std::alloc::Global;
 use vm_run::Verdict;
@@ -9,6 +9,9 @@ use word_lines::Piece::{Hex, Number, Why, Word};
 use word_lines::line;
 
 pub const USAGE_LINE: &[u8] = b"usage\n";
+
+// The bytes of a line of a program beside its hex digits.
+const PROGRAM_WORDS: usize = 9;
 
 /// The line of a verdict.
 pub fn verdict_line(alloc: Global, verdict: Verdict) -> Result<String, NoMemory>
@@ -30,4 +33,16 @@ pub fn accepted_line(alloc: Global, height: u64, id: &Id) -> Result<String, NoMe
     ensures { IfOk result (λ line. string_bytes line ≡ accepted_line height id.now) }
 {
     line(alloc, "accepted", &[Number(height), Hex(id)])
+}
+
+/// The line of a program of any length. Its room is taken once.
+pub fn program_line(alloc: Global, program: &[u8]) -> Result<String, NoMemory>
+    ensures { IfOk result (λ line. string_bytes line ≡ program_line program.now) }
+{
+    let digits = hex::encode(alloc, program)?;
+    let mut line = String::with_capacity(alloc, digits.len() + PROGRAM_WORDS)?;
+    line.push_str("program ")?;
+    line.push_str(digits.as_str())?;
+    line.push_str("\n")?;
+    Ok(line)
 }

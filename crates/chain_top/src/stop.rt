@@ -33,3 +33,14 @@ impl From<vm_run::NoMemory> for Stop {
         Stop::NoMemory
     }
 }
+
+impl From<vote_book::NoMemory> for Stop {
+    ghost use Rattle.std.specs.Prelude.{◌≡◌};
+    ghost use Rattle.chain_top.specs.declared.stop.Stop.TheVariants as stops;
+
+    ghost from_gives = { λ _ e. e ≡ stops.NoMemory };
+
+    fn from(_: vote_book::NoMemory) -> Stop {
+        Stop::NoMemory
+    }
+}

@@ -1,5 +1,6 @@
 // Hex words in their places. One that is none is refused.
-ghost use Rattle.std.specs.Prelude.{◌+◌, ◌<◌, ◌≤◌, ◌^◌, length, IfOk, map, string_bytes};
+ghost use Rattle.std.specs.Prelude.{◌≡◌, ◌+◌, ◌<◌, ◌≤◌, ◌^◌, length, IfOk, map, string_bytes};
+ghost use Rattle.std.specs.List.{AllByRecursion};
 ghost use Rattle.chain_top.specs.Asking.{Checked};
 ghost use Rattle.chain_top.specs.Reading.{WordsOf};
 ghost use Rattle.chain_top.specs.Reply.{HexOf};
@@ -24,7 +25,9 @@ pub fn hex_word(alloc: Global, word: &str, place: u64) -> Result<Bytes, Stop>
 /// The bytes of hex words, the first of them at this place. The first that is no hex word is refused.
 pub fn hex_words(alloc: Global, words: &[String], place: u64) -> Result<Args, Stop>
     requires { place + length words.now < 2 ^ 64 }
-    ensures { Checked (λ args. args) (WordsOf place (map string_bytes words.now)) result }
+    ensures reads { Checked (λ args. args) (WordsOf place (map string_bytes words.now)) result }
+    ensures number { IfOk result (λ args. length args ≡ length words.now) }
+    ensures short { IfOk result (λ args. AllByRecursion (λ bytes. length bytes ≤ 65536) args) }
 {
     match word_lines::hex_words(alloc, words, place) {
         Ok(Ok(args)) => Ok(args),
