@@ -1,5 +1,6 @@
 #!/usr/bin/env python3
-"""Time and peak memory of `apply` for N and 2N blocks without transactions, offered to a ledger of the initial block.
+"""Time and peak memory of `apply` for N and 2N blocks without transactions, offered to a ledger of the initial block, and then
+for 4 and 8 blocks of 1,000 transactions each, as `offer.py` makes them.
 
 The script makes the offers with its own SHA-256 of the blocks' bytes, checks every printed line and the ledger's bytes
 against its own, and prints how time and memory grow when the blocks double. Beside it stands the time of `sha256sum` over as
@@ -112,6 +113,12 @@ def refuse(folder):
         expect(ledger.read_bytes(), before, "the ledger after a refusal")
 
 
+def transactions():
+    import offer  # it takes its calls of the program from here
+
+    offer.compare(4, 1_000)
+
+
 def main():
     count = int(sys.argv[1]) if len(sys.argv) > 1 else 50_000
     expect(run(["vm", "10000", "525393559c"])[0], 0, "the status of the first run")
@@ -123,6 +130,7 @@ def main():
             rows.append((seconds, memory))
             print(f"{blocks} blocks: {seconds:.2f} s, {memory / 1024:.1f} MiB at most, sha256sum of {hashed} bytes {hash_time(folder, hashed):.3f} s", flush=True)
     print(f"twice the blocks: {rows[1][0] / rows[0][0]:.2f} times the time, {rows[1][1] / rows[0][1]:.2f} times the memory")
+    transactions()
     with tempfile.TemporaryDirectory() as name:
         refuse(pathlib.Path(name))
     print("offers that are too long or no blocks are refused, and nothing is written")

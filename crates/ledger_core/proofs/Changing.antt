@@ -1,5 +1,5 @@
 -- What the transactions at the front of a block change, and which of them is refused first.
-use Rattle.std.proofs.Common.{◌≡◌, ℕ, ◌+◌, ◌<◌, ◌≤◌, List, [], ◌∷◌, ◌++◌, length, take, Some, None, Result, Ok, Err, IfErr, OnOk, refl, sym, ap, ◌∙◌, subst, arith, append-nil}
+use Rattle.std.proofs.Common.{◌≡◌, ℕ, ◌+◌, ◌≤◌, List, [], ◌∷◌, ◌++◌, length, take, Some, None, Result, Ok, Err, IfErr, OnOk, refl, sym, ap, ◌∙◌, subst, append-nil}
 use Rattle.std.specs.List.{flat_map}
 use Rattle.std.proofs.lemmas.Grind.{flat_map-append}
 use Rattle.wire.specs.Tables.{HoldsNot}
@@ -8,7 +8,6 @@ use Rattle.data_model.specs.declared.block.Block.{Block}
 use Rattle.vm_run.specs.Row.{Check}
 use Rattle.tx_check.specs.View.{State, Unspent}
 use Rattle.tx_check.specs.Table.{TxValid, Refuses}
-use Rattle.tx_check.specs.FirstPlace.{AtFirst}
 use Rattle.tx_check.specs.Laws.{RefusalLaws}
 use Rattle.tx_check.specs.declared.refusal.TxRefusal.{TxRefusal}
 use Rattle.tx_check.specs.declared.refusal.TxFault.{TxFault}
@@ -21,11 +20,11 @@ use Rattle.ledger_core.specs.declared.refusal.OfferFault.TheVariants.{Refused, N
 use Rattle.ledger_core.specs.declared.unfinished.Changes.{Changes}
 use Rattle.ledger_core.specs.declared.unfinished.LiveNonce.{LiveNonce}
 use Rattle.ledger_core.specs.Roots.{Hash}
-use Rattle.ledger_core.specs.Blocks.{txs_of, tip_of, time_of}
+use Rattle.ledger_core.specs.Blocks.{txs_of}
 use Rattle.ledger_core.specs.Held.{Held, shown_with}
 use Rattle.ledger_core.specs.Chain.{StandsFor}
 use Rattle.ledger_core.specs.State.{state_after, ids_of}
-use Rattle.ledger_core.specs.Unspent.{left_of, made_by, spent_by, used_by, unspent_after, used, live_at}
+use Rattle.ledger_core.specs.Unspent.{left_of, made_by, spent_by, used_by, unspent_after, used}
 use Rattle.ledger_core.specs.Refusal.{IsRefusedTx, HasRefusedTx}
 use Rattle.ledger_core.specs.Offering.{AreChanges, RefusesAs, TellsOf}
 use Rattle.ledger_core.proofs.Unspents.{unspent_more, unspent_then, used_more}

@@ -1,5 +1,5 @@
 -- Of each asset, what is unspent and what is retired is together what is issued.
-use Rattle.std.proofs.Common.{◌≡◌, ◌⊎◌, ℕ, zero, suc, ◌+◌, ◌<◌, ◌≤◌, List, [], ◌∷◌, ◌++◌, map, take, length, Some, None, refl, sym, ap, subst, ◌∙◌, inl, inr, arith, append_assoc, append-nil}
+use Rattle.std.proofs.Common.{◌≡◌, ℕ, suc, ◌+◌, List, [], ◌∷◌, ◌++◌, map, take, length, Some, refl, sym, ap, subst, ◌∙◌, inl, inr, arith, append_assoc, append-nil}
 use Rattle.std.specs.Prelude.{Contains, slice_get}
 use Rattle.std.specs.List.{flat_map, sum_by, enumerate_from}
 use Rattle.std.proofs.lemmas.List.Sums.{sum_by-append, sum_by-cons}
@@ -20,14 +20,12 @@ use Rattle.tx_check.specs.Table.{TxValid, units, sum_in, sum_out, asset_out, amo
 use Rattle.tx_check.specs.Valid.{Valid, NoneTwice}
 use Rattle.tx_check.specs.View.{State, Unspent}
 use Rattle.ledger_core.specs.Blocks.{txs_of}
-use Rattle.ledger_core.specs.Chain.{Chain, GoesOn}
+use Rattle.ledger_core.specs.Chain.{GoesOn}
 use Rattle.ledger_core.specs.Conservation.{issued_by, retired_by, issued, retired, held_units, Conserves}
 use Rattle.ledger_core.specs.Laws.{ValidLaws}
-use Rattle.ledger_core.specs.Refusal.{ValidNext}
-use Rattle.ledger_core.specs.Start.{StartRefusal}
 use Rattle.ledger_core.specs.State.{state_after}
 use Rattle.ledger_core.specs.Unspent.{left_of, made_at, made_by, output_named, spent_by, unspent_after}
-use Rattle.ledger_core.proofs.Members.{In, in_contained, contained_in, in_left, in_right, in_either, in_map, Distinct, distinct_both, ids, in_left_of, left_in, id_in_left, left_distinct, all_left, left_step}
+use Rattle.ledger_core.proofs.Members.{In, in_contained, contained_in, in_left, in_right, in_map, Distinct, distinct_both, ids, left_in, id_in_left, left_distinct, all_left, left_step}
 use Rattle.ledger_core.proofs.Settled.{txs_more}
 use Rattle.ledger_core.proofs.Started.{no_txs}
 use Rattle.ledger_core.proofs.Unspents.{left_of_left, left_of_none, unspent_then}
@@ -54,24 +52,24 @@ one_out : (asset : List ℕ) (x : Unspent) (outputs : List Unspent) → Distinct
 one_out asset x [] d h = absurd h
 one_out asset x (o ∷ outputs) d (inl e) = elim (left_step (x.id ∷ []) o outputs) [
   | inl (gone, is) ↦ (
-    let rest : left_of (x.id ∷ []) outputs ≡ outputs =
-        all_left (x.id ∷ []) outputs (λ id i j. d.0 (subst (λ (k : List ℕ). In k (ids outputs)) (single id x.id j ∙ ap (λ (y : Unspent). y.id) e) i)) in
-    let sums = held_step asset o outputs in
-    let one : worth asset o ≡ worth asset x = ap (worth asset) (sym e) in
-    let left : held_units asset (left_of (x.id ∷ []) (o ∷ outputs)) ≡ held_units asset outputs = ap (held_units asset) (is ∙ rest) in
-    omega (arith, sums, one, left)
-  )
+      let rest : left_of (x.id ∷ []) outputs ≡ outputs =
+      all_left (x.id ∷ []) outputs (λ id i j. d.0 (subst (λ (k : List ℕ). In k (ids outputs)) (single id x.id j ∙ ap (λ (y : Unspent). y.id) e) i)) in
+      let sums = held_step asset o outputs in
+      let one : worth asset o ≡ worth asset x = ap (worth asset) (sym e) in
+      let left : held_units asset (left_of (x.id ∷ []) (o ∷ outputs)) ≡ held_units asset outputs = ap (held_units asset) (is ∙ rest) in
+      omega (arith, sums, one, left)
+      )
   | inr (kept, is) ↦ absurd (kept (inl (ap (λ (y : Unspent). y.id) (sym e))))
 ]
 one_out asset x (o ∷ outputs) d (inr h) = elim (left_step (x.id ∷ []) o outputs) [
   | inl (gone, is) ↦ absurd (d.0 (subst (λ (k : List ℕ). In k (ids outputs)) (sym (single o.id x.id gone)) (in_map (λ (y : Unspent). y.id) x outputs h)))
   | inr (kept, is) ↦ (
-    let sums = held_step asset o outputs in
-    let left : held_units asset (left_of (x.id ∷ []) (o ∷ outputs)) ≡ worth asset o + held_units asset (left_of (x.id ∷ []) outputs) =
-        ap (held_units asset) is ∙ held_step asset o (left_of (x.id ∷ []) outputs) in
-    let rest = one_out asset x outputs d.1 h in
-    omega (arith, sums, left, rest)
-  )
+      let sums = held_step asset o outputs in
+      let left : held_units asset (left_of (x.id ∷ []) (o ∷ outputs)) ≡ worth asset o + held_units asset (left_of (x.id ∷ []) outputs) =
+      ap (held_units asset) is ∙ held_step asset o (left_of (x.id ∷ []) outputs) in
+      let rest = one_out asset x outputs d.1 h in
+      omega (arith, sums, left, rest)
+      )
 ]
 
 -- all of these are taken out
@@ -82,7 +80,7 @@ all_out asset (x ∷ spent) outputs d e there =
     let first = one_out asset x outputs d (there x (inl refl)) in
     let left = left_of (x.id ∷ []) outputs in
     let rest = all_out asset spent left (left_distinct (x.id ∷ []) outputs d) e.1
-        (λ y i. left_in (x.id ∷ []) outputs y (there y (inr i)) (λ j. e.0 (subst (λ (k : List ℕ). In k (ids spent)) (single y.id x.id j) (in_map (λ (z : Unspent). z.id) y spent i)))) in
+    (λ y i. left_in (x.id ∷ []) outputs y (there y (inr i)) (λ j. e.0 (subst (λ (k : List ℕ). In k (ids spent)) (single y.id x.id j) (in_map (λ (z : Unspent). z.id) y spent i)))) in
     let both : held_units asset (left_of (ids spent) left) ≡ held_units asset (left_of (ids (x ∷ spent)) outputs) = ap (held_units asset) (left_of_left (x.id ∷ []) (ids spent) outputs) in
     let sums = held_step asset x spent in
     omega (arith, first, rest, both, sums)
@@ -132,8 +130,8 @@ spent_distinct [] once = tt
 spent_distinct (Named.Nothing ∷ named) once = spent_distinct named (once_later Named.Nothing named once)
 spent_distinct (Named.Nonce id ∷ named) once = spent_distinct named (once_later (Named.Nonce id) named once)
 spent_distinct (Named.Output id ∷ named) once = (
-    (λ i. (let h = named_somewhere named id i in let e = once 0 (suc h.0) id refl h.1 in absurd (omega (arith, e)))),
-    spent_distinct named (once_later (Named.Output id) named once),
+  (λ i. (let h = named_somewhere named id i in let e = once 0 (suc h.0) id refl h.1 in absurd (omega (arith, e)))),
+  spent_distinct named (once_later (Named.Output id) named once),
 )
 
 -- ---- what a transaction makes
@@ -164,8 +162,7 @@ new_later hash mux place o outputs old earlier h k control there =
     let at : place + suc k ≡ place + 1 + k = omega arith in
     let id : ℕ → List ℕ = λ n. result_id hash mux n (Output.Control control) in
     let new = h (suc k) control there in
-    let rest = take k (results_from hash mux (place + 1) outputs) in
-    (
+    let rest = take k (results_from hash mux (place + 1) outputs) in (
       (λ i. new.0 (subst (λ (n : ℕ). In (id n) old) (sym at) i)),
       (λ i. new.1 (subst (λ (n : ℕ). In (id n) (earlier ++ result_id hash mux place o ∷ rest)) (sym at) (subst (λ (l : List (List ℕ)). In (id (place + 1 + k)) l) (append_assoc earlier (result_id hash mux place o ∷ []) rest) i))),
     )
@@ -184,8 +181,7 @@ made_new hash mux place (Output.Control control ∷ outputs) old earlier h =
     let rest = made_new hash mux (place + 1) outputs old (earlier ++ first ∷ []) (new_later hash mux place (Output.Control control) outputs old earlier h) in
     let all = made_of_control hash mux place control outputs in
     let at : place + 0 ≡ place = omega arith in
-    let new = subst (λ (n : ℕ). (In (result_id hash mux n (Output.Control control)) old → ⊥) × (In (result_id hash mux n (Output.Control control)) (earlier ++ []) → ⊥)) at (h 0 control refl) in
-    (
+    let new = subst (λ (n : ℕ). (In (result_id hash mux n (Output.Control control)) old → ⊥) × (In (result_id hash mux n (Output.Control control)) (earlier ++ []) → ⊥)) at (h 0 control refl) in (
       subst (λ (l : List (List ℕ)). Distinct l) (sym all) ((λ i. (rest.1 first i).1 (in_right first earlier (first ∷ []) (inl refl))), rest.0),
       λ id i. elim (subst (λ (l : List (List ℕ)). In id l) all i) [
         | inl e ↦ ((λ j. new.0 (subst (λ (x : List ℕ). In x old) e j)), (λ j. new.1 (in_left first earlier [] (subst (λ (x : List ℕ). In x earlier) e j))))
@@ -237,8 +233,7 @@ has_new_ids : (hash : Hash) (check : Check) (state : State) (time : ℕ) (tx : T
 has_new_ids hash check state time tx valid k control there =
     let new = valid.new_ids k control there in
     let at : 0 + k ≡ k = omega arith in
-    let id : ℕ → List ℕ = λ n. result_id hash (mux_id hash tx) n (Output.Control control) in
-    (
+    let id : ℕ → List ℕ = λ n. result_id hash (mux_id hash tx) n (Output.Control control) in (
       (λ i. new.not_unspent (contained_in _ _ (subst (λ (n : ℕ). In (id n) (map (λ output. output.id) state.unspent)) at i))),
       (λ i. new.not_earlier (contained_in _ _ (subst (λ (n : ℕ). In (id n) (take k (result_ids hash tx))) at i))),
     )
@@ -304,7 +299,7 @@ kept_on hash check asset laws facts before [] on kept = subst (λ (l : List Bloc
 kept_on hash check asset laws facts before (block ∷ later) on kept =
     let extends = ((laws.next before block).0 on.0).2 in
     let more = kept_along hash check asset before block.header.time [] block.txs (λ k tx there. facts _ _ tx (extends.txs k tx there))
-        (subst (λ (l : List Tx). IsKept hash asset l) (sym (append-nil (txs_of before))) kept) in
+    (subst (λ (l : List Tx). IsKept hash asset l) (sym (append-nil (txs_of before))) kept) in
     let with : IsKept hash asset (txs_of (before ++ block ∷ [])) = subst (λ (l : List Tx). IsKept hash asset l) (sym (txs_more before block)) more in
     subst (λ (l : List Block). IsKept hash asset (txs_of l)) (append_assoc before (block ∷ []) later)
     (kept_on hash check asset laws facts (before ++ block ∷ []) later on.1 with)

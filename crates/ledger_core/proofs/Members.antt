@@ -1,7 +1,6 @@
 -- Members of lists, and lists without a member twice.
-use Rattle.std.proofs.Common.{◌≡◌, ◌⊎◌, ℕ, zero, suc, ◌+◌, ◌<◌, ◌≤◌, Bool, true, false, not, ◌||◌, List, [], ◌∷◌, ◌++◌, map, length, Some, refl, sym, ap, subst, ◌∙◌, inl, inr, arith}
-use Rattle.std.specs.Prelude.{Contains, slice_get, bytes_eq}
-use Rattle.std.specs.List.{list_any, filter}
+use Rattle.std.proofs.Common.{◌≡◌, ◌⊎◌, ℕ, zero, suc, Bool, true, false, ◌||◌, List, [], ◌∷◌, ◌++◌, map, refl, sym, ap, subst, ◌∙◌, inl, inr, arith}
+use Rattle.std.specs.Prelude.{Contains, bytes_eq}
 use Rattle.std.specs.Bool.{Decides}
 use Rattle.std.proofs.lemmas.Slice.Eq.{bytes_eq-Decides}
 use Rattle.tx_check.specs.View.{Unspent}
@@ -54,11 +53,11 @@ Distinct (x ∷ xs) = (In x xs → ⊥) × Distinct xs
 pub distinct_both : {X : Type 0} (xs ys : List X) → Distinct xs → Distinct ys → ((x : X) → In x ys → In x xs → ⊥) → Distinct (xs ++ ys)
 distinct_both [] ys h k apart = k
 distinct_both (x ∷ xs) ys h k apart = (
-    (λ i. elim (in_either x xs ys i) [
-      | inl j ↦ h.0 j
-      | inr j ↦ apart x j (inl refl)
-    ]),
-    distinct_both xs ys h.1 k (λ y i j. apart y i (inr j)),
+  (λ i. elim (in_either x xs ys i) [
+    | inl j ↦ h.0 j
+    | inr j ↦ apart x j (inl refl)
+  ]),
+  distinct_both xs ys h.1 k (λ y i j. apart y i (inr j)),
 )
 
 -- ---- ids
@@ -76,12 +75,16 @@ among (s ∷ spent) id = go (bytes_eq s id) (bytes_eq-Decides s id) (among spent
   where
     not_true : false ≡ true → ⊥
     not_true e = cc
+
     go : (b : Bool) → Decides b (s ≡ id) → Decides (is_among spent id) (In id spent) → Decides (b || is_among spent id) ((id ≡ s) ⊎ In id spent)
     go true d rest = (λ e. inl (sym (d.0 refl)), λ h. refl)
-    go false d rest = (λ e. inr (rest.0 e), λ h. elim h [
-      | inl same ↦ absurd (not_true (d.1 (sym same)))
-      | inr k ↦ rest.1 k
-    ])
+    go false d rest = (
+      λ e. inr (rest.0 e),
+      λ h. elim h [
+        | inl same ↦ absurd (not_true (d.1 (sym same)))
+        | inr k ↦ rest.1 k
+      ],
+    )
 
 -- what is left of one output more
 pub left_step : (spent : List (List ℕ)) (o : Unspent) (outputs : List Unspent)
@@ -91,6 +94,7 @@ left_step spent o outputs = go (is_among spent o.id) refl (among spent o.id)
   where
     not_true : false ≡ true → ⊥
     not_true e = cc
+
     go : (b : Bool) → is_among spent o.id ≡ b → Decides b (In o.id spent)
         → ((In o.id spent) × (left_of spent (o ∷ outputs) ≡ left_of spent outputs))
         ⊎ ((In o.id spent → ⊥) × (left_of spent (o ∷ outputs) ≡ o ∷ left_of spent outputs))

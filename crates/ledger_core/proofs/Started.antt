@@ -1,8 +1,6 @@
 -- The ledger of an initial block stands for its hash and any check.
-use Rattle.std.proofs.Common.{◌≡◌, ◌≢◌, ℕ, ◌≤◌, List, [], ◌∷◌, ◌++◌, length, Some, None, Option, refl, sym, ◌∙◌, ap, subst, inl, inr, arith, append-nil}
-use Rattle.std.specs.List.{AllByRecursion}
+use Rattle.std.proofs.Common.{◌≡◌, List, [], ◌∷◌, Some, None, refl, sym, ◌∙◌, ap, subst, inl, arith, append-nil}
 use Rattle.data_model.specs.declared.block.Block.{Block}
-use Rattle.data_model.specs.declared.header.Header.{Header}
 use Rattle.data_model.specs.declared.tx.Tx.{Tx}
 use Rattle.data_model.specs.Spelling.{IsHeader, AreTxs}
 use Rattle.entry_ids.specs.Entry.{header_id}

@@ -1,7 +1,7 @@
 -- What is unspent, and which nonces are live, as transactions follow one another.
-use Rattle.std.proofs.Common.{◌≡◌, ℕ, ◌≤◌, Bool, true, false, not, ◌||◌, ◌&&◌, List, [], ◌∷◌, ◌++◌, map, length, refl, sym, ap, ◌∙◌, arith, append_assoc, append-nil}
+use Rattle.std.proofs.Common.{◌≡◌, ℕ, ◌≤◌, Bool, true, false, not, ◌||◌, ◌&&◌, List, [], ◌∷◌, ◌++◌, refl, sym, ap, ◌∙◌, arith, append_assoc, append-nil}
 use Rattle.std.specs.Prelude.{bytes_eq, nat_le}
-use Rattle.std.specs.List.{flat_map, filter, list_any}
+use Rattle.std.specs.List.{flat_map, filter}
 use Rattle.std.proofs.lemmas.List.Folds.{list_any-append}
 use Rattle.std.proofs.lemmas.Bool.Decides.{nat_tests}
 use Rattle.std.proofs.lemmas.Grind.{flat_map-append}
@@ -54,7 +54,7 @@ unspent_more hash (tx ∷ txs) later =
     let spent = spent_by hash in
     let made = made_by hash tx in
     let front : left_of (flat_map spent (txs ++ later)) made ≡ left_of (flat_map spent later) (left_of (flat_map spent txs) made) =
-        ap (λ (ids : List (List ℕ)). left_of ids made) (flat_map-append spent txs later) ∙ sym (left_of_left (flat_map spent txs) (flat_map spent later) made) in
+    ap (λ (ids : List (List ℕ)). left_of ids made) (flat_map-append spent txs later) ∙ sym (left_of_left (flat_map spent txs) (flat_map spent later) made) in
     ap (λ (xs : List Unspent). xs ++ unspent_after hash (txs ++ later)) front
     ∙ ap (λ (xs : List Unspent). left_of (flat_map spent later) (left_of (flat_map spent txs) made) ++ xs) (unspent_more hash txs later)
     ∙ sym (append_assoc (left_of (flat_map spent later) (left_of (flat_map spent txs) made)) (left_of (flat_map spent later) (unspent_after hash txs)) (unspent_after hash later))

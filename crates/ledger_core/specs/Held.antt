@@ -1,5 +1,5 @@
 -- What a ledger is seen as.
-use Rattle.std.specs.Prelude.{ℕ, List, map, ◌++◌}
+use Rattle.std.specs.Prelude.{ℕ, List, ◌++◌}
 use Rattle.data_model.specs.declared.block.Block.{Block}
 use Rattle.data_model.specs.Spelling.{IsHeader, AreTxs}
 use Rattle.tx_check.specs.View.{State, Unspent}

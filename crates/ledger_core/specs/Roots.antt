@@ -1,7 +1,6 @@
 -- The two roots that a block names.
 use Rattle.std.specs.Prelude.{ℕ, List, [], map, ◌++◌}
 use Rattle.data_model.specs.declared.block.Block.{Block}
-use Rattle.data_model.specs.declared.tx.Tx.{Tx}
 use Rattle.entry_ids.specs.Ids.{tx_id}
 use Rattle.merkle.specs.Roots.{list_root, set_root}
 use Rattle.tx_check.specs.View.{Unspent}

@@ -78,11 +78,7 @@ fn ledgers_of_files(rt: HostRuntime) -> Result<(), Fail> {
             first,
             Err(LoadFault::Start(StartFault::HeightNotOne)),
         ),
-        (
-            file,
-            second,
-            Err(LoadFault::Block { index: 2, refusal }),
-        ),
+        (file, second, Err(LoadFault::Block { index: 2, refusal })),
     ] {
         let bytes = joined(rt.alloc(), front, back)?;
         assert!(rt; loaded(rt.alloc(), bytes.as_slice()) == want);

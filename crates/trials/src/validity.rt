@@ -101,13 +101,7 @@ fn shown(alloc: Global, chain: Chain) -> Result<Shown, DataFault> {
 }
 
 // A name, the bytes of a transaction, the time of its block, the chain before it, and what refuses it.
-pub type Case = (
-    &'static str,
-    &'static [u8],
-    u32,
-    Chain,
-    Option<TxRefusal>,
-);
+pub type Case = (&'static str, &'static [u8], u32, Chain, Option<TxRefusal>);
 
 // It is refused so, or not at all.
 pub fn is_refused(alloc: Global, case: &Case) -> Result<bool, Fail> {
@@ -144,7 +138,10 @@ const ROWS: [Case; 9] = [
         b"\x01\x05\x04\0\0\0",
         2,
         Chain::Nothing,
-        Some(TxRefusal::X2 { mintime: 5, maxtime: 4 }),
+        Some(TxRefusal::X2 {
+            mintime: 5,
+            maxtime: 4,
+        }),
     ),
     (
         "issues",
@@ -164,7 +161,10 @@ const ROWS: [Case; 9] = [
         \x43\x05\x72\x03\x50\x4e\x25\xae\x90\xbb\x17\xfc\x64\x01\x51\0",
         6,
         Chain::Nothing,
-        Some(TxRefusal::X4 { maxtime: 5, time: 6 }),
+        Some(TxRefusal::X4 {
+            maxtime: 5,
+            time: 6,
+        }),
     ),
     (
         "issues at its last time",

@@ -24,7 +24,10 @@ const ALONE: [Case; 24] = [
         \x43\x05\x72\x03\x50\x4e\x25\xae\x90\xbb\x17\xfc\x64\x01\x51\0",
         2,
         Chain::Nothing,
-        Some(TxRefusal::X3 { mintime: 3, time: 2 }),
+        Some(TxRefusal::X3 {
+            mintime: 3,
+            time: 2,
+        }),
     ),
     (
         "X4",
@@ -34,7 +37,10 @@ const ALONE: [Case; 24] = [
         \x43\x05\x72\x03\x50\x4e\x25\xae\x90\xbb\x17\xfc\x64\x01\x51\0",
         6,
         Chain::Nothing,
-        Some(TxRefusal::X4 { maxtime: 5, time: 6 }),
+        Some(TxRefusal::X4 {
+            maxtime: 5,
+            time: 6,
+        }),
     ),
     (
         "X5",
@@ -165,7 +171,11 @@ const ALONE: [Case; 24] = [
         \x43\x05\x72\x03\x50\x4e\x25\xae\x90\xbb\x17\xfc\x63\x01\x51\0",
         2,
         Chain::Nothing,
-        Some(TxRefusal::X10 { asset: A, sum_in: 100, sum_out: 99 }),
+        Some(TxRefusal::X10 {
+            asset: A,
+            sum_in: 100,
+            sum_out: 99,
+        }),
     ),
     (
         "X10 of the greatest sums",
@@ -180,7 +190,11 @@ const ALONE: [Case; 24] = [
         \x80\x80\x80\x80\x80\x80\x80\x80\x40\x01\x51\0",
         2,
         Chain::Nothing,
-        Some(TxRefusal::X10 { asset: A, sum_in: 1 << 63, sum_out: 1 << 63 }),
+        Some(TxRefusal::X10 {
+            asset: A,
+            sum_in: 1 << 63,
+            sum_out: 1 << 63,
+        }),
     ),
     (
         "no X10 of sums one below",
@@ -206,7 +220,11 @@ const ALONE: [Case; 24] = [
         \x76\x45\xec\xb5\x37\x16\x43\x05\x72\x03\x50\x4e\x25\xae\x90\xbb\x17\xfc\x07\x01\x51\0",
         2,
         Chain::Nothing,
-        Some(TxRefusal::X10 { asset: D, sum_in: 8, sum_out: 9 }),
+        Some(TxRefusal::X10 {
+            asset: D,
+            sum_in: 8,
+            sum_out: 9,
+        }),
     ),
     (
         "X10 of an asset of the outputs",
@@ -218,7 +236,11 @@ const ALONE: [Case; 24] = [
         \x01\x01\x01\x01\x01\x01\x51\0",
         2,
         Chain::Nothing,
-        Some(TxRefusal::X10 { asset: W, sum_in: 0, sum_out: 1 }),
+        Some(TxRefusal::X10 {
+            asset: W,
+            sum_in: 0,
+            sum_out: 1,
+        }),
     ),
     (
         "X11",
@@ -283,7 +305,10 @@ const ALONE: [Case; 24] = [
         \x43\x05\x72\x03\x50\x4e\x25\xae\x90\xbb\x17\xfc\x64\x01\x51\0",
         2,
         Chain::Held,
-        Some(TxRefusal::X13 { output: 0, id: MADE }),
+        Some(TxRefusal::X13 {
+            output: 0,
+            id: MADE,
+        }),
     ),
     (
         "X14",
@@ -293,7 +318,11 @@ const ALONE: [Case; 24] = [
         \xcf\xbf\x4e\x86\x26\xf1\x8e\x48\x7f\xb0\x95\x05\x01\x51\0",
         2,
         Chain::Nothing,
-        Some(TxRefusal::X14 { input: 0, kind: Failure::FalseResult, at: 1 }),
+        Some(TxRefusal::X14 {
+            input: 0,
+            kind: Failure::FalseResult,
+            at: 1,
+        }),
     ),
     (
         "X14 of the second",
@@ -307,7 +336,11 @@ const ALONE: [Case; 24] = [
         \0",
         2,
         Chain::Nothing,
-        Some(TxRefusal::X14 { input: 1, kind: Failure::FalseResult, at: 1 }),
+        Some(TxRefusal::X14 {
+            input: 1,
+            kind: Failure::FalseResult,
+            at: 1,
+        }),
     ),
 ];
 

@@ -24,7 +24,10 @@ const PAIRS: [Case; 14] = [
         \x43\x05\x72\x03\x50\x4e\x25\xae\x90\xbb\x17\xfc\x64\x01\x51\0",
         2,
         Chain::Nothing,
-        Some(TxRefusal::X2 { mintime: 5, maxtime: 4 }),
+        Some(TxRefusal::X2 {
+            mintime: 5,
+            maxtime: 4,
+        }),
     ),
     (
         "X2 and X4",
@@ -34,7 +37,10 @@ const PAIRS: [Case; 14] = [
         \x43\x05\x72\x03\x50\x4e\x25\xae\x90\xbb\x17\xfc\x64\x01\x51\0",
         5,
         Chain::Nothing,
-        Some(TxRefusal::X2 { mintime: 5, maxtime: 4 }),
+        Some(TxRefusal::X2 {
+            mintime: 5,
+            maxtime: 4,
+        }),
     ),
     (
         "X3 and X5",
@@ -44,7 +50,10 @@ const PAIRS: [Case; 14] = [
         \x43\x05\x72\x03\x50\x4e\x25\xae\x90\xbb\x17\xfc\x64\x01\x51\0",
         2,
         Chain::Nothing,
-        Some(TxRefusal::X3 { mintime: 3, time: 2 }),
+        Some(TxRefusal::X3 {
+            mintime: 3,
+            time: 2,
+        }),
     ),
     (
         "X4 and X6",
@@ -54,7 +63,10 @@ const PAIRS: [Case; 14] = [
         \x03\x50\x4e\x25\xae\x90\xbb\x17\xfc\x64\x01\x51\0",
         2,
         Chain::Nothing,
-        Some(TxRefusal::X4 { maxtime: 1, time: 2 }),
+        Some(TxRefusal::X4 {
+            maxtime: 1,
+            time: 2,
+        }),
     ),
     (
         "X5 and X7",
@@ -139,7 +151,11 @@ const PAIRS: [Case; 14] = [
         \x50\x4e\x25\xae\x90\xbb\x17\xfc\x3c\x01\x51\0",
         2,
         Chain::Nothing,
-        Some(TxRefusal::X10 { asset: A, sum_in: 100, sum_out: 60 }),
+        Some(TxRefusal::X10 {
+            asset: A,
+            sum_in: 100,
+            sum_out: 60,
+        }),
     ),
     (
         "X11 and X12",
@@ -174,7 +190,10 @@ const PAIRS: [Case; 14] = [
         \xcf\xbf\x4e\x86\x26\xf1\x8e\x48\x7f\xb0\x95\x05\x01\x51\0",
         2,
         Chain::Failing,
-        Some(TxRefusal::X13 { output: 0, id: FAILING }),
+        Some(TxRefusal::X13 {
+            output: 0,
+            id: FAILING,
+        }),
     ),
 ];
 

@@ -48,7 +48,7 @@ module _ {R X : Type 0} (line : ℕ → X → Line R) (xs : List X) where
   next_place k i other x none there not e (inr same) =
       let here : slice_get xs i ≡ Some other = ap (slice_get xs) same ∙ e in
       subst (λ (n : ℕ). HoldsNot (line n other)) same (subst (λ (y : X). HoldsNot (line i y)) (sym
-          (one_there xs i x other there here)) not)
+      (one_there xs i x other there here)) not)
 
   pub none_more_at : (i : ℕ) (x : X) → NoneBelow i → slice_get xs i ≡ Some x → HoldsNot (line i x) → NoneBelow (i + 1)
   none_more_at i x none there not k other l e =
@@ -204,14 +204,14 @@ module _ {R X : Type 0} (line : X → Line R) where
   first_of_right [] ys told none first = first
   first_of_right (x ∷ xs) ys told none first =
       first_of_tail anywhere x (xs ++ ys) (not_at_head x xs none) told (first_of_right xs ys told
-          (not_in_tail x xs none) first)
+      (not_in_tail x xs none) first)
 
   pub nowhere_in_both : (xs ys : List X) → HoldsNot (AtFirst anywhere xs) → HoldsNot (AtFirst anywhere ys)
       → HoldsNot (AtFirst anywhere (xs ++ ys))
   nowhere_in_both [] ys none others = others
   nowhere_in_both (x ∷ xs) ys none others =
       nowhere_in_tail anywhere x (xs ++ ys) (not_at_head x xs none) (nowhere_in_both xs ys
-          (not_in_tail x xs none) others)
+      (not_in_tail x xs none) others)
 
 -- ---- parts of a table
 

@@ -1,5 +1,4 @@
-use Rattle.std.proofs.Common.{arith, List, ℕ, Vec, Global, subst, sym}
-use Rattle.std.specs.List.{All}
+use Rattle.std.proofs.Common.{arith}
 use Rattle.std.proofs.lemmas.Grind.{common_steps}
 use Rattle.std.proofs.lemmas.List.Elements.{All-push}
 use Rattle.merkle.specs.Laws.{IsId}

@@ -1,7 +1,6 @@
-use Rattle.std.proofs.Common.{List, subst, sym}
+use Rattle.std.proofs.Common.{List, subst}
 use Rattle.std.proofs.lemmas.List.{take_all}
 use Rattle.data_model.specs.declared.tx.Tx.{Tx}
-use Rattle.entry_ids.specs.declared.tx.TxIds.{TxIds}
 use Rattle.ledger_core.specs.Offering.{AreAllIds}
 use Rattle.ledger_core.proofs.Taken.{is_tx, ids_next}
 use Rattle.ledger_core.proofs.txs.all_ids.Goals as goal

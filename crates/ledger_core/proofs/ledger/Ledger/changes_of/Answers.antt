@@ -1,4 +1,4 @@
-use Rattle.std.proofs.Common.{ℕ, ◌<◌, List, length, take, subst, sym, refl, rules, arith}
+use Rattle.std.proofs.Common.{ℕ, ◌<◌, List, take, subst, sym}
 use Rattle.std.proofs.lemmas.List.{take_all}
 use Rattle.std.proofs.lemmas.Result.{err_from_is_err_and}
 use Rattle.data_model.specs.declared.tx.Tx.{Tx}
