@@ -12,12 +12,21 @@ use std::{fs, rt};
 /// The files of a runtime, which for a program are those of the system. It tells nothing of their contents.
 ///
 /// Each error of the system is `Failed`. What an Ok has written was handed to the disk before (`fsync`), the folder too
-/// where it made or renamed a file.
+/// where it made or renamed a file. The file of the last append stays open for a next one to the same name, until a
+/// write fails or a file is replaced: nobody else may rename or remove it meanwhile.
 #[derive(Drop)]
-pub struct StdFiles<'a, R> {
+pub struct StdFiles<'a, R: rt::Files> {
     rt: &'a R,
+    kept: Option<Kept<R::File>>,
     read_faults: u64,
     write_faults: u64,
+}
+
+// A file that is open for appends, under its name.
+#[derive(Drop)]
+struct Kept<F> {
+    name: String,
+    file: F,
 }
 
 impl<'a, R: rt::Files> StdFiles<'a, R> {
@@ -28,6 +37,7 @@ impl<'a, R: rt::Files> StdFiles<'a, R> {
     {
         StdFiles {
             rt,
+            kept: None,
             read_faults: 0,
             write_faults: 0,
         }
@@ -57,13 +67,14 @@ impl<R: rt::Files + AllocGlobal> Files for StdFiles<'_, R> {
     }
 
     fn append(&mut self, name: &str, bytes: &[u8]) -> Result<(), FileFault> {
-        let answer = append_file(self.rt, name, bytes);
+        let answer = append_kept(self.rt, &mut self.kept, name, bytes);
         count_fault(&mut self.write_faults, answer)
     }
 
     /// The bytes go to a file of the name followed by `.new`, which is then renamed. That file is the adapter's own:
     /// what stood there before is lost. Where the write or the renaming fails, it is removed.
     fn replace(&mut self, name: &str, bytes: &[u8]) -> Result<(), FileFault> {
+        self.kept = None;
         let answer = replace_file(self.rt, name, bytes);
         count_fault(&mut self.write_faults, answer)
     }
@@ -82,14 +93,32 @@ fn read_file<R: rt::Files>(
     read_front(alloc, &mut file, most)
 }
 
-// Adds bytes to a file. One that is not there is made, and its folder then synced.
-fn append_file<R: rt::Files>(rt: &R, name: &str, bytes: &[u8]) -> Result<(), FileFault> {
+// Adds bytes to the file that is kept, where it has the name, and else to one that is opened and kept in its place. A
+// fault keeps none.
+fn append_kept<R: rt::Files + AllocGlobal>(
+    rt: &R,
+    kept: &mut Option<Kept<R::File>>,
+    name: &str,
+    bytes: &[u8],
+) -> Result<(), FileFault> {
+    let mut open = match kept.take() {
+        Some(last) if last.name.as_str() == name => last,
+        _ => open_file(rt, name)?,
+    };
+    write_synced(&mut open.file, bytes)?;
+    *kept = Some(open);
+    Ok(())
+}
+
+// Opens a file for appends. One that is not there is made, and its folder then synced.
+fn open_file<R: rt::Files + AllocGlobal>(rt: &R, name: &str) -> Result<Kept<R::File>, FileFault> {
+    let own = String::from_str(rt.alloc(), name)?;
     match OpenOptions::new().append(true).open(rt, name) {
-        Ok(mut file) => write_synced(&mut file, bytes),
+        Ok(file) => Ok(Kept { name: own, file }),
         Err(_) => {
-            let mut file = OpenOptions::new().append(true).create(true).open(rt, name)?;
-            write_synced(&mut file, bytes)?;
-            sync_folder(rt, name)
+            let file = OpenOptions::new().append(true).create(true).open(rt, name)?;
+            sync_folder(rt, name)?;
+            Ok(Kept { name: own, file })
         }
     }
 }

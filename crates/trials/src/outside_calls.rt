@@ -94,6 +94,19 @@ fn appends_and_reads<F: Files>(alloc: Global, files: &mut F, name: &str) -> bool
         && gives(alloc, files, name, 9, b"abcdef")
 }
 
+/// An append to another file or a replace comes between two appends to a file, and each has its bytes.
+fn appends_between<F: Files>(rt: &HostRuntime, files: &mut F, name: &str, other: &str) -> bool {
+    files.append(name, b"g").is_ok()
+        && files.append(other, b"1").is_ok()
+        && files.append(name, b"h").is_ok()
+        && holds(rt, name, b"abcdefgh")
+        && holds(rt, other, b"1")
+        && files.replace(name, b"new").is_ok()
+        && files.append(name, b"er").is_ok()
+        && files.append(name, b"!").is_ok()
+        && holds(rt, name, b"newer!")
+}
+
 /// A replace leaves no draft behind, whatever stood there, so that a folder can be made in its place. The draft goes by
 /// the name with `.new`: where that is a folder, nothing is replaced.
 fn replaces<F: Files>(rt: &HostRuntime, files: &mut F, name: &str, draft: &str) -> bool {
@@ -117,9 +130,11 @@ fn files_of_the_system(rt: HostRuntime) -> Result<(), Fail> {
     let folder = new_folder(&rt)?;
     let name = format!(in rt.alloc(); "{folder}/led")?;
     let draft = format!(in rt.alloc(); "{folder}/led.new")?;
+    let other = format!(in rt.alloc(); "{folder}/other")?;
     let beside = format!(in rt.alloc(); "{folder}.new")?;
     let mut files = StdFiles::new(&rt);
     assert!(rt; appends_and_reads(rt.alloc(), &mut files, name.as_str()));
+    assert!(rt; appends_between(&rt, &mut files, name.as_str(), other.as_str()));
     assert!(rt; replaces(&rt, &mut files, name.as_str(), draft.as_str()));
     assert!(rt; keeps_folders(&rt, &mut files, folder.as_str(), beside.as_str()));
     fs::remove_dir_all(&rt, folder.as_str())?;
