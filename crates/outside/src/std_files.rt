@@ -11,9 +11,9 @@ use std::{fs, rt};
 
 /// The files of a runtime, which for a program are those of the system. It tells nothing of their contents.
 ///
-/// Each error of the system is `Failed`. What an Ok has written was handed to the disk before (`fsync`), the folder too
-/// where it made or renamed a file. The file of the last append stays open for a next one to the same name, until a
-/// write fails or a file is replaced: nobody else may rename or remove it meanwhile.
+/// Each error of the system is `Failed`. What an Ok has written was handed to the disk before (`fsync`), and the folder
+/// too. The file of the last append stays open for a next one to the same name, until a write fails or a file is
+/// replaced: nobody else may rename or remove it meanwhile.
 #[derive(Drop)]
 pub struct StdFiles<'a, R: rt::Files> {
     rt: &'a R,
@@ -110,17 +110,13 @@ fn append_kept<R: rt::Files + AllocGlobal>(
     Ok(())
 }
 
-// Opens a file for appends. One that is not there is made, and its folder then synced.
+// Opens a file for appends, which is made where it is not there, and syncs its folder: whoever made or renamed the file
+// before may have failed to.
 fn open_file<R: rt::Files + AllocGlobal>(rt: &R, name: &str) -> Result<Kept<R::File>, FileFault> {
     let own = String::from_str(rt.alloc(), name)?;
-    match OpenOptions::new().append(true).open(rt, name) {
-        Ok(file) => Ok(Kept { name: own, file }),
-        Err(_) => {
-            let file = OpenOptions::new().append(true).create(true).open(rt, name)?;
-            sync_folder(rt, name)?;
-            Ok(Kept { name: own, file })
-        }
-    }
+    let file = OpenOptions::new().append(true).create(true).open(rt, name)?;
+    sync_folder(rt, name)?;
+    Ok(Kept { name: own, file })
 }
 
 // Writes a draft, and renames it to the name. Where one of these fails, the draft is removed.
