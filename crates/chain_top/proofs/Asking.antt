@@ -8,14 +8,15 @@ use Rattle.outside.specs.Files.{Content}
 use Rattle.outside.specs.Files as files
 use Rattle.outside.specs.Steps.{Step, Read}
 use Rattle.outside.specs.World.{World, Io}
-use Rattle.chain_top.specs.Asking.{asks, missing, too_long, found, checks, refused, goes_on, HasPlan, OnePlan, PlanFor, PlansFor, OnePlanFor, IsModel, IsCheck, asked_end, Asked, Checked}
-use Rattle.chain_top.specs.Line.{refused_size}
-use Rattle.chain_top.specs.Plan.{End, Done, Refused, Missing, Plan, done, refuse, behind, Given, later, GivenBy, Does, Follows}
-use Rattle.chain_top.specs.Refused.{RefusesBy}
-use Rattle.chain_top.specs.Steps.{reads_of}
-use Rattle.chain_top.specs.declared.stop.Stop.{Stop}
-use Rattle.chain_top.specs.declared.stop.Stop.TheVariants as stops
-use Rattle.chain_top.proofs.Fronts.{did-all, does-then, does-cut, does-none, does-refuse}
+use Rattle.replies.specs.Asking.{asks, missing, too_long, found, checks, refused, goes_on, HasPlan, OnePlan, PlanFor, PlansFor, OnePlanFor, IsModel, IsCheck, asked_end, Asked, Checked}
+use Rattle.replies.specs.Line.{refused_size}
+use Rattle.replies.specs.Laws.{PlanLaws}
+use Rattle.replies.specs.Plan.{End, Done, Refused, Missing, Plan, done, refuse, behind, Given, later, GivenBy, Went, WentBy, Follows}
+use Rattle.replies.specs.Refused.{RefusesBy}
+use Rattle.replies.specs.Steps.{reads_of}
+use Rattle.replies.specs.declared.stop.Stop.{Stop}
+use Rattle.replies.specs.declared.stop.Stop.TheVariants as stops
+use Rattle.chain_top.proofs.Begun.{none_begun, only_refused}
 
 -- ---- what is given
 
@@ -51,27 +52,23 @@ plan_at model w plans tells = by_contents w.contents refl
         record { given = p.given; plan = p.plan; is_plan = p.is_plan; agrees = subst (λ (o : Option (List ℕ → Content)). GivenBy o (reads_of p.plan.steps) p.given) (sym is) p.agrees }
 
 -- want of memory before the first step
-pub follows-none : {T : Type 0} (model : Given → Plan → Type 0) (a : Io) → PlansFor model → TellsBytes a.world → Follows {T = T} model a a (Err stops.NoMemory)
+pub follows-none : (model : Given → Plan → Type 0) (a : Io) → PlansFor model → TellsBytes a.world → WentBy model a a (Some stops.NoMemory)
 follows-none model a plans tells =
-    (let p = plan_at model a.world plans tells in record { given = p.given; plan = p.plan; is_plan = p.is_plan; agrees = p.agrees; does = does-none p.plan a a refl })
+    (let p = plan_at model a.world plans tells in record { given = p.given; plan = p.plan; is_plan = p.is_plan; agrees = p.agrees; went = none_begun p.plan a })
 
 -- as a `?` passes it on
-pub follows-memory : {T : Type 0} (model : Given → Plan → Type 0) (a : Io) (r : Result T Stop) → PlansFor model → TellsBytes a.world → IsErrAnd r (λ y. y ≡ stops.NoMemory) → Follows model a a r
-follows-memory model a (Ok x) plans tells is = absurd is
-follows-memory {T = T} model a (Err y) plans tells is = subst (λ (z : Stop). Follows {T = T} model a a (Err z)) (sym is) (follows-none model a plans tells)
-
-pub follows-passed : {T : Type 0} (model : Given → Plan → Type 0) (a b : Io) (e : Stop) (r : Result T Stop) → IsErrAnd r (λ y. y ≡ e) → Follows {T = T} model a b (Err e) → Follows model a b r
+pub follows-passed : {T : Type 0} (model : Given → Plan → Type 0) (a b : Io) (e : Stop) (r : Result T Stop) → IsErrAnd r (λ y. y ≡ e) → WentBy model a b (Some e) → Follows model a b r
 follows-passed model a b e (Ok x) is f = absurd is
-follows-passed {T = T} model a b e (Err y) is f = subst (λ (z : Stop). Follows {T = T} model a b (Err z)) (sym is) f
+follows-passed model a b e (Err y) is f = subst (λ (z : Stop). WentBy model a b (Some z)) (sym is) f
 
 -- one plan that is known and reads nothing
-pub follows-known : {T : Type 0} (p : Plan) (a b : Io) (r : Result T Stop) → reads_of p.steps ≡ [] → Does p a b r → Follows (λ given plan. plan ≡ p) a b r
-follows-known p a b r quiet does = record {
+pub follows-known : (p : Plan) (a b : Io) (stop : Option Stop) → reads_of p.steps ≡ [] → Went p a b stop → WentBy (λ given plan. plan ≡ p) a b stop
+follows-known p a b stop quiet went = record {
   given = λ n. None;
   plan = p;
   is_plan = refl;
   agrees = subst (λ (rs : List files.Read). GivenBy a.world.contents rs (λ n. None)) (sym quiet) tt;
-  does = does;
+  went = went;
 }
 
 -- ---- a file that is asked for
@@ -82,15 +79,14 @@ fits_in most place bytes false is ends =
     let long : asked_end most place (Some bytes) ≡ Refused (refused_size place) = ap (λ (t : Bool). if t then Done else Refused (refused_size place)) is in
     cc
 
-module _ (name : List ℕ) (most place : ℕ) (next : List ℕ → Given → Plan → Type 0) (a b : Io) where
-  pub asked-then : {T : Type 0} (c : Io) (v : Vec ℕ Global) (r : Result T Stop) → Asked name most place a b (Ok v) → Follows (next v.items) b c r → Follows (asks name most place next) a c r
-  asked-then c v r asked f =
+module _ (laws : PlanLaws) (name : List ℕ) (most place : ℕ) (next : List ℕ → Given → Plan → Type 0) (a b : Io) where
+  pub asked-then : (c : Io) (v : Vec ℕ Global) (stop : Option Stop) → Asked name most place a b (Ok v) → WentBy (next v.items) b c stop → WentBy (asks name most place next) a c stop
+  asked-then c v stop asked f =
       let content : asked.content ≡ Some v.items = asked.gives in
       let ends : asked_end most place (Some v.items) ≡ Done = subst (λ (o : Content). asked_end most place o ≡ Done) content asked.does.ends.0 in
       let short : length v.items ≤ most = fits_in most place v.items (nat_le (length v.items) most) refl ends in
       let are : AreBytes v.items = subst HoldsBytes content asked.holds in
-      let all = did-all (Read name most ∷ []) a.world b.world asked.does.begun asked.does.ends.1 asked.does.did in
-      let same : b.world.contents ≡ a.world.contents = ap (λ (w : World). w.contents) all.2 ∙ ap (λ (w : World). w.contents) all.1.1 in
+      let same : b.world.contents ≡ a.world.contents = laws.keeps name most (asked_end most place asked.content) a b asked.does in
       record {
         given = first_given (Some v.items) f.given;
         plan = behind (Read name most ∷ []) f.plan;
@@ -99,28 +95,19 @@ module _ (name : List ℕ) (most place : ℕ) (next : List ℕ → Given → Pla
           subst (λ (o : Content). IfSome a.world.contents (λ of. o ≡ of name)) content asked.agrees,
           subst (λ (o : Option (List ℕ → Content)). GivenBy o (reads_of f.plan.steps) f.given) same f.agrees,
         );
-        does = does-then (record { steps = Read name most ∷ []; end = asked_end most place asked.content }) f.plan a b c v r asked.does f.does;
+        went = laws.then (record { steps = Read name most ∷ []; end = asked_end most place asked.content }) f.plan a b c stop asked.does f.went;
       }
 
-  pub asked-stopped : {T : Type 0} (e : Stop) → ((bytes : List ℕ) → AreBytes bytes → IsModel (next bytes)) → TellsBytes a.world → Asked name most place a b (Err e) → Follows {T = T} (asks name most place next) a b (Err e)
-  asked-stopped {T = T} e models tells asked = by_content asked.content refl
+  pub asked-stopped : (e : Stop) → ((bytes : List ℕ) → AreBytes bytes → IsModel (next bytes)) → TellsBytes a.world → Asked name most place a b (Err e) → WentBy (asks name most place next) a b (Some e)
+  asked-stopped e models tells asked = by_content asked.content refl
     where
-      does_at : (content : Content) (end : End) → asked.content ≡ content → asked_end most place content ≡ end → Does {T = Vec ℕ Global} (record { steps = Read name most ∷ []; end = end }) a b (Err e)
-      does_at content end is ends = subst (λ (x : End). Does {T = Vec ℕ Global} (record { steps = Read name most ∷ []; end = x }) a b (Err e)) (ap (asked_end most place) is ∙ ends) asked.does
+      does_at : (content : Content) (end : End) → asked.content ≡ content → asked_end most place content ≡ end → Went (record { steps = Read name most ∷ []; end = end }) a b (Some e)
+      does_at content end is ends = subst (λ (x : End). Went (record { steps = Read name most ∷ []; end = x }) a b (Some e)) (ap (asked_end most place) is ∙ ends) asked.does
 
       agrees_at : (content : Content) → asked.content ≡ content → IfSome a.world.contents (λ of. content ≡ of name)
       agrees_at content is = subst (λ (o : Content). IfSome a.world.contents (λ of. o ≡ of name)) is asked.agrees
 
-      of_unit : (p : Plan) → Does {T = Vec ℕ Global} p a b (Err e) → Does {T = T} p a b (Err e)
-      of_unit p d = by_stop e d
-        where
-          by_stop : (s : Stop) → Does {T = Vec ℕ Global} p a b (Err s) → Does {T = T} p a b (Err s)
-          by_stop (stops.Refused line) d = record { begun = d.begun; front = d.front; did = d.did; ends = d.ends; place = d.place }
-          by_stop stops.ReadFault d = record { begun = d.begun; front = d.front; did = d.did; ends = d.ends; place = d.place }
-          by_stop stops.WriteFault d = record { begun = d.begun; front = d.front; did = d.did; ends = d.ends; place = d.place }
-          by_stop stops.NoMemory d = record { begun = d.begun; front = d.front; did = d.did; ends = d.ends; place = d.place }
-
-      by_size : (bytes : List ℕ) → asked.content ≡ Some bytes → (fits : Bool) → nat_le (length bytes) most ≡ fits → Follows {T = T} (asks name most place next) a b (Err e)
+      by_size : (bytes : List ℕ) → asked.content ≡ Some bytes → (fits : Bool) → nat_le (length bytes) most ≡ fits → WentBy (asks name most place next) a b (Some e)
       by_size bytes is false test =
           let past : most < length bytes = grind (arith, nat_tests) in
           record {
@@ -128,7 +115,7 @@ module _ (name : List ℕ) (most place : ℕ) (next : List ℕ → Given → Pla
             plan = record { steps = Read name most ∷ []; end = Refused (refused_size place) };
             is_plan = too_long bytes refl past;
             agrees = (agrees_at (Some bytes) is, tt);
-            does = of_unit _ (does_at (Some bytes) (Refused (refused_size place)) is (ap (λ (t : Bool). if t then Done else Refused (refused_size place)) test));
+            went = does_at (Some bytes) (Refused (refused_size place)) is (ap (λ (t : Bool). if t then Done else Refused (refused_size place)) test);
           }
       by_size bytes is true test =
           let short : length bytes ≤ most = grind (arith, nat_tests) in
@@ -139,27 +126,31 @@ module _ (name : List ℕ) (most place : ℕ) (next : List ℕ → Given → Pla
             plan = behind (Read name most ∷ []) p.plan;
             is_plan = found bytes p.plan refl short fit p.is_plan;
             agrees = (agrees_at (Some bytes) is, p.agrees);
-            does = does-cut (done (Read name most ∷ [])) p.plan a b e refl (does_at (Some bytes) Done is (ap (λ (t : Bool). if t then Done else Refused (refused_size place)) test));
+            went = laws.cut (done (Read name most ∷ [])) p.plan a b e refl (does_at (Some bytes) Done is (ap (λ (t : Bool). if t then Done else Refused (refused_size place)) test));
           }
 
-      by_content : (content : Content) → asked.content ≡ content → Follows {T = T} (asks name most place next) a b (Err e)
+      by_content : (content : Content) → asked.content ≡ content → WentBy (asks name most place next) a b (Some e)
       by_content None is = record {
         given = first_given None (λ n. None);
         plan = record { steps = Read name most ∷ []; end = Missing };
         is_plan = missing refl;
         agrees = (agrees_at None is, tt);
-        does = of_unit _ (does_at None Missing is refl);
+        went = does_at None Missing is refl;
       }
       by_content (Some bytes) is = by_size bytes is (nat_le (length bytes) most) refl
+
+-- what was found is bytes
+pub asked-bytes : (name : List ℕ) (most place : ℕ) (a b : Io) (v : Vec ℕ Global) → Asked name most place a b (Ok v) → AreBytes v.items
+asked-bytes name most place a b v asked = subst HoldsBytes asked.gives asked.holds
 
 -- ---- a check
 
 module _ {V : Type 0} (is : Result V (List ℕ) → Type 0) (next : V → Given → Plan → Type 0) where
-  pub checked-then : {T : Type 0} (a c : Io) (v : V) (r : Result T Stop) → is (Ok v) → Follows (next v) a c r → Follows (checks is next) a c r
-  checked-then a c v r good f = record { given = f.given; plan = f.plan; is_plan = goes_on v good f.is_plan; agrees = f.agrees; does = f.does }
+  pub checked-then : (a c : Io) (v : V) (stop : Option Stop) → is (Ok v) → WentBy (next v) a c stop → WentBy (checks is next) a c stop
+  checked-then a c v stop good f = record { given = f.given; plan = f.plan; is_plan = goes_on v good f.is_plan; agrees = f.agrees; went = f.went }
 
-  pub checked-stopped : {T U : Type 0} (view : U → V) (a : Io) (e : Stop) → PlansFor (checks is next) → TellsBytes a.world → Checked view is (Err e) → Follows {T = T} (checks is next) a a (Err e)
-  checked-stopped view a (stops.Refused line) plans tells bad = record { given = λ n. None; plan = refuse (string_bytes line); is_plan = refused bad; agrees = tt; does = does-refuse a line }
+  pub checked-stopped : {U : Type 0} (view : U → V) (a : Io) (e : Stop) → PlansFor (checks is next) → TellsBytes a.world → Checked view is (Err e) → WentBy (checks is next) a a (Some e)
+  checked-stopped view a (stops.Refused line) plans tells bad = record { given = λ n. None; plan = refuse (string_bytes line); is_plan = refused bad; agrees = tt; went = only_refused a line }
   checked-stopped view a stops.ReadFault plans tells bad = absurd bad
   checked-stopped view a stops.WriteFault plans tells bad = absurd bad
   checked-stopped view a stops.NoMemory plans tells bad = follows-none (checks is next) a plans tells

@@ -11,12 +11,12 @@ use Rattle.ledger_core.specs.Refusal.{Hash}
 use Rattle.outside.specs.Files.{Content, Write, Append, bytes_in, write_of, IsAppended}
 use Rattle.outside.specs.Crash.{State, StepAt, Leads, MayLeave, cut_short, IsMoment}
 use Rattle.outside.specs.CrashLaws.{MomentsJoin, OthersStay, StartsKept}
-use Rattle.chain_top.specs.Answer.{done_of}
+use Rattle.replies.specs.Answer.{done_of}
 use Rattle.data_model.specs.Files.{block_frame}
 use Rattle.ledger_file.specs.Files.{file_spelling}
 use Rattle.chain_top.specs.Growth.{HoldsBlocks, appends, Grows, IsTorn, LeavesFront, ApplyCrash, GrowthLaws, CrashLaws}
-use Rattle.chain_top.specs.Reply.{Reply}
-use Rattle.chain_top.specs.Steps.{writes_of}
+use Rattle.replies.specs.Reply.{Reply}
+use Rattle.replies.specs.Steps.{writes_of}
 use Rattle.word_lines.specs.Word.{Word}
 use Rattle.chain_top.proofs.Growing.{same_name}
 

@@ -14,21 +14,21 @@ use Rattle.ledger_core.specs.Refusal.{Hash}
 use Rattle.outside.specs.Files.{Content, Append, bytes_in, write_of, ReadsAt}
 use Rattle.outside.specs.Files as files
 use Rattle.outside.specs.Steps.{Step, Read, Print}
-use Rattle.chain_top.specs.Answer.{GoesOn}
-use Rattle.chain_top.specs.Asking.{missing, too_long, found, checks, refused as is_refused, goes_on}
+use Rattle.replies.specs.Answer.{GoesOn}
+use Rattle.replies.specs.Asking.{missing, too_long, found, checks, refused as is_refused, goes_on}
 use Rattle.data_model.specs.Files.{block_frame, BlocksReadAs}
 use Rattle.ledger_file.specs.Files.{AreFramed, file_spelling}
 use Rattle.chain_top.specs.Growth.{HoldsBlocks, appends, offers_told, Grows, EndsGrown, ApplyReply, ApplyFor, GrowthLaws}
-use Rattle.chain_top.specs.Line.{accepted_line, refused_block}
+use Rattle.command_lines.specs.Line.{accepted_line, refused_block}
 use Rattle.ledger_file.specs.Loading.{chain}
-use Rattle.chain_top.specs.Loading.{most_bytes, LedgerOf, BlocksOf, FitsWith}
+use Rattle.replies.specs.Asking.{most_bytes, FitsWith}
+use Rattle.chain_top.specs.Loading.{LedgerOf, BlocksOf}
 use Rattle.chain_top.specs.Offers.{OfferOwes, accepted, refused, OffersOwe, none, next, offers_model}
-use Rattle.chain_top.specs.Plan.{End, Done, Refused, Missing, Plan, done, behind, Given, later, GivenBy}
-use Rattle.chain_top.specs.Reply.{Reply, ended, reply_of, offered_model, offer_file_model, ledger_model, apply_model}
-use Rattle.chain_top.specs.Steps.{Line, lines_after, lines_of, reads_of, writes_of}
+use Rattle.replies.specs.Plan.{End, Done, Refused, Missing, Plan, done, behind, Given, later, GivenBy}
+use Rattle.replies.specs.Reply.{Reply, ended, reply_of}
+use Rattle.chain_top.specs.Reply.{offered_model, offer_file_model, ledger_model, apply_model}
+use Rattle.replies.specs.Steps.{Line, lines_after, lines_of, reads_of, writes_of}
 use Rattle.word_lines.specs.Word.{Word}
-use Rattle.chain_top.proofs.Flat.{writes-both}
-use Rattle.chain_top.proofs.Fronts.{not_refused}
 use Rattle.chain_top.specs.Known.{Known}
 
 -- ---- bytes
@@ -128,6 +128,9 @@ pub data ApplyRun (hash : Hash) (check : Check) (ledger offers : Word) (given : 
   ran : Applied hash check ledger offers given plan → ApplyRun hash check ledger offers given plan
   ended_at : Stopped plan → ApplyRun hash check ledger offers given plan
 
+not_refused : (line : List ℕ) → Done ≡ Refused line → ⊥
+not_refused line e = cc
+
 not_missing : Missing ≡ Done → ⊥
 not_missing e = cc
 
@@ -194,7 +197,7 @@ module _ (laws : Known) (hash : Hash) (check : Check) where
 
   writes_line : (steps : List Step) (end : End) → writes_of steps ≡ [] → writes_of (ended steps end).steps ≡ []
   writes_line steps Done is = is
-  writes_line steps (Refused line) is = writes-both steps (Print line ∷ []) ∙ append-nil (writes_of steps) ∙ is
+  writes_line steps (Refused line) is = laws.steps.writes_both steps (Print line ∷ []) ∙ append-nil (writes_of steps) ∙ is
   writes_line steps Missing is = is
 
   module _ (ledger offers : Word) where

@@ -9,22 +9,24 @@ use Rattle.outside.specs.Files.{Content}
 use Rattle.outside.specs.Files as files
 use Rattle.outside.specs.Steps.{Read}
 use Rattle.outside.specs.World.{World}
-use Rattle.chain_top.specs.Answer.{Answers, GoesOn}
-use Rattle.chain_top.specs.Asking.{asks, missing, too_long, found, checks, refused, goes_on, IsCheck}
+use Rattle.replies.specs.Answer.{Answers, GoesOn}
+use Rattle.replies.specs.Asking.{asks, missing, too_long, found, checks, refused, goes_on, IsCheck}
 use Rattle.chain_top.specs.Command.{Command, Vm, Init, Apply, Quorum, command_of}
 use Rattle.chain_top.specs.Known.{Known}
 use Rattle.chain_top.specs.Growth.{Grows, GrowthLaws, ApplyFor, appends}
 use Rattle.chain_top.specs.Headline.{DoesReply, Grown, GrowsLedger, FilesRead, OwnRefusal, IsComplete}
-use Rattle.chain_top.specs.Loading.{most_bytes, LedgerOf, BlocksOf, FitsWith}
+use Rattle.replies.specs.Asking.{most_bytes, FitsWith}
+use Rattle.chain_top.specs.Loading.{LedgerOf, BlocksOf}
 use Rattle.chain_top.specs.Offers.{offers_model}
-use Rattle.chain_top.specs.Plan.{Refused, Plan, behind, Given, later, GivenBy}
-use Rattle.chain_top.specs.Reply.{Choice, Reply, misfit, vm_model, init_model, quorum_model, offered_model, offer_file_model, ledger_model, apply_model, ended, reply_of, CommandReply, ReplyFor}
-use Rattle.chain_top.specs.Steps.{reads_of, writes_of}
-use Rattle.chain_top.specs.Whole.{IsWhole, ReplyLaws, AnswerLaws}
+use Rattle.replies.specs.Laws.{StepLaws}
+use Rattle.replies.specs.Plan.{Refused, Plan, behind, Given, later, GivenBy}
+use Rattle.replies.specs.Reply.{Reply, ended, reply_of}
+use Rattle.chain_top.specs.Reply.{Choice, misfit, vm_model, init_model, quorum_model, offered_model, offer_file_model, ledger_model, apply_model, CommandReply, ReplyFor}
+use Rattle.replies.specs.Steps.{reads_of, writes_of}
+use Rattle.replies.specs.Whole.{IsWhole}
+use Rattle.chain_top.specs.Whole.{ReplyLaws, AnswerLaws}
 use Rattle.word_lines.specs.Word.{Word}
 use Rattle.chain_top.proofs.Asking.{not_both}
-use Rattle.chain_top.proofs.Concluding.{reads-ended}
-use Rattle.chain_top.proofs.Flat.{goes_on-whole}
 use Rattle.chain_top.proofs.Loads.{ledger_check, blocks_check}
 
 -- ---- where a command's files are read, its reply has status 0 or is a refusal of its own list
@@ -108,8 +110,8 @@ module _ (replies : (hash : Hash) (check : Check) → ReplyLaws hash check) (ans
     as_apply : (contents : List ℕ → Content) (ledger offers : Word) (reply : Reply) → command_of words ≡ Some (Apply ledger offers) → ReplyFor hash check words choice contents reply → ApplyFor hash check ledger offers contents reply
     as_apply contents ledger offers reply is reads = of_command contents (Apply ledger offers) reply is reads
 
-    pub grows-ledger : GrowthLaws hash check → GrowsLedger hash check words before after status
-    grows-ledger laws = λ contents ledger offers is told none zero. by_reply contents ledger offers is told zero (does-reply contents told none)
+    pub grows-ledger : StepLaws → GrowthLaws hash check → GrowsLedger hash check words before after status
+    grows-ledger stepping laws = λ contents ledger offers is told none zero. by_reply contents ledger offers is told zero (does-reply contents told none)
       where
         by_reply : (contents : List ℕ → Content) (ledger offers : Word) → command_of words ≡ Some (Apply ledger offers) → before.contents ≡ Some contents → status ≡ 0 → (reply : Reply) × ReplyFor hash check words choice contents reply × (IsWhole reply before after status ⊎ (status ≡ 5)) → Grown hash check ledger offers contents after
         by_reply contents ledger offers is told zero (reply, reads, inr five) = absurd (omega (arith, zero, five))
@@ -117,14 +119,14 @@ module _ (replies : (hash : Hash) (check : Check) → ReplyLaws hash check) (ans
             let grown : Grows hash check ledger (contents ledger) (contents offers) reply = laws.grows_for ledger offers contents reply (as_apply contents ledger offers reply is reads) (sym whole.status_is ∙ zero) in
             let on : GoesOn (appends ledger grown.added) (Some contents) after.contents =
             subst (λ (ws : List files.Write). GoesOn ws (Some contents) after.contents) grown.writes
-            (subst (λ (k : Option (List ℕ → Content)). GoesOn (writes_of reply.steps) k after.contents) told (goes_on-whole reply.steps before after whole.did)) in
+            (subst (λ (k : Option (List ℕ → Content)). GoesOn (writes_of reply.steps) k after.contents) told (stepping.goes_on reply.steps before after whole.did)) in
             record { reply = reply; grows = grown; ends = laws.ends ledger grown.added contents after.contents on }
 
     pub is-complete : Known → IsComplete hash check words before after status
     is-complete laws = λ contents command is told none read. by_reply contents command is read (does-reply contents told none)
       where
         plan_reads : (contents : List ℕ → Content) (given : Given) (plan : Plan) (reply : Reply) → reply ≡ reply_of plan → GivenBy (Some contents) (reads_of reply.steps) given → GivenBy (Some contents) (reads_of plan.steps) given
-        plan_reads contents given plan reply same agrees = subst (λ (rs : List files.Read). GivenBy (Some contents) rs given) (ap (λ (r : Reply). reads_of r.steps) same ∙ reads-ended plan.steps plan.end) agrees
+        plan_reads contents given plan reply same agrees = subst (λ (rs : List files.Read). GivenBy (Some contents) rs given) (ap (λ (r : Reply). reads_of r.steps) same ∙ laws.steps.reads_ended plan.steps plan.end) agrees
 
         comes : (contents : List ℕ → Content) (command : Command) (reply : Reply) → FilesRead hash check command contents → (given : Given) × CommandReply hash check choice (Some command) given reply × GivenBy (Some contents) (reads_of reply.steps) given → Comes command reply
         comes contents (Vm limit program args) reply read (given, (plan, is, same), agrees) = subst (Comes (Vm limit program args)) (sym same) (comes_vm check limit program args given plan is)

@@ -1,12 +1,10 @@
-pub mod Asked
 pub mod Asking
+pub mod Begun
 pub mod Concluding
 pub mod Crashing
-pub mod Ending
-pub mod Fronts
-pub mod Flat
 pub mod Growing
 pub mod Headline
+pub mod Keys
 pub mod Lines
 pub mod Loaded
 pub mod Loads
@@ -14,4 +12,3 @@ pub mod Models
 pub mod Offering
 pub mod VmLines
 pub mod Wholly
-pub mod Keys

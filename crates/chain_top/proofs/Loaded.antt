@@ -8,11 +8,11 @@ use Rattle.ledger_file.specs.Loaded.{Loads}
 use Rattle.ledger_file.specs.Loading.{chain}
 use Rattle.ledger_file.specs.declared.fault.LoadFault.{LoadFault}
 use Rattle.ledger_file.specs.declared.fault.LoadFault.TheVariants as faults
-use Rattle.chain_top.specs.Asking.{Checked}
+use Rattle.replies.specs.Asking.{Checked}
 use Rattle.chain_top.specs.Known.{Known}
 use Rattle.chain_top.specs.Loading.{LedgerOf}
-use Rattle.chain_top.specs.Refused.{RefusesLoad}
-use Rattle.chain_top.specs.declared.stop.Stop.{Stop}
+use Rattle.command_lines.specs.Refused.{RefusesLoad}
+use Rattle.replies.specs.declared.stop.Stop.{Stop}
 use Rattle.chain_top.proofs.Asking.{checked-refused}
 
 -- the line of its fault

@@ -5,9 +5,10 @@ use Rattle.wire.specs.Spelling.{AreBytes}
 use Rattle.data_model.specs.Files.{BlocksReadAs}
 use Rattle.ledger_core.specs.Refusal.{Hash}
 use Rattle.ledger_file.specs.Loading.{LoadsAs}
-use Rattle.chain_top.specs.Asking.{IsCheck, lined}
+use Rattle.replies.specs.Asking.{IsCheck, lined}
 use Rattle.chain_top.specs.Known.{Known}
-use Rattle.chain_top.specs.Loading.{file_line, load_line, LedgerOf, BlocksOf}
+use Rattle.command_lines.specs.Faults.{file_line, load_line}
+use Rattle.chain_top.specs.Loading.{LedgerOf, BlocksOf}
 
 -- a definition with one answer, told by lines, has one
 lined-check : {V F : Type 0} (line_of : F → List ℕ) (is : Result V F → Type 0) → (r : Result V F) × is r → ((r s : Result V F) → is r → is s → r ≡ s) → IsCheck (lined line_of is)

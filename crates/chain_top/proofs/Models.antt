@@ -8,18 +8,20 @@ use Rattle.ledger_core.specs.declared.refusal.BlockRefusal.{BlockRefusal}
 use Rattle.ledger_core.specs.Refusal.{Hash, Refusal}
 use Rattle.outside.specs.Bytes.{AreBytes}
 use Rattle.outside.specs.Steps.{Step, Print}
-use Rattle.chain_top.specs.Asking.{checks, IsModel, IsCheck}
+use Rattle.replies.specs.Asking.{checks, IsModel, IsCheck}
 use Rattle.chain_top.specs.Command.{Command, Vm, Init, Apply, Quorum}
 use Rattle.chain_top.specs.Known.{Known}
 use Rattle.chain_top.specs.Initial.{initial_block}
-use Rattle.chain_top.specs.Line.{refused_hex, refused_size, refused_block}
+use Rattle.replies.specs.Line.{refused_size}
+use Rattle.command_lines.specs.Line.{refused_hex, refused_block}
 use Rattle.ledger_file.specs.Loading.{LoadsAs, chain}
-use Rattle.chain_top.specs.Loading.{most_bytes, LedgerOf, BlocksOf, FitsWith}
+use Rattle.replies.specs.Asking.{most_bytes, FitsWith}
+use Rattle.chain_top.specs.Loading.{LedgerOf, BlocksOf}
 use Rattle.chain_top.specs.Offers.{OfferOwes, accepted, refused, OffersOwe, none, next, offers_model}
 use Rattle.chain_top.specs.Reply.{Choice, VmLine, vm_model, HexOf, init_steps, init_model, quorum_steps, quorum_model, offered_model, offer_file_model, ledger_model, apply_model, model_of}
 use Rattle.word_lines.specs.Word.{hex_words}
 use Rattle.chain_top.specs.Reading.{WordsOf}
-use Rattle.chain_top.specs.Steps.{reads_of}
+use Rattle.replies.specs.Steps.{reads_of}
 use Rattle.word_lines.specs.Word.{Word, hex_of}
 use Rattle.chain_top.proofs.Asking.{asks-model, checks-model, steps-model, known-model}
 use Rattle.chain_top.proofs.Loads.{ledger_check, blocks_check}

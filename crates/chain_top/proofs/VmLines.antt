@@ -7,13 +7,13 @@ use Rattle.vm_run.specs.declared.context.Context.TheVariants.{Nothing}
 use Rattle.vm_run.specs.declared.verdict.Verdict.{Verdict}
 use Rattle.std.specs.Prelude.{String, string_bytes}
 use Rattle.std.specs.declared.alloc.Global.{Global}
-use Rattle.chain_top.specs.Asking.{IsCheck, Checked}
+use Rattle.replies.specs.Asking.{IsCheck, Checked}
 use Rattle.chain_top.specs.Known.{Known}
-use Rattle.chain_top.specs.Line.{refused_hex, verdict_line}
+use Rattle.command_lines.specs.Line.{refused_hex, verdict_line}
 use Rattle.chain_top.specs.Reading.{WordsOf, LineOfRun}
 use Rattle.chain_top.specs.Reply.{HexOf, VmLine, misfit, ran}
-use Rattle.chain_top.specs.declared.stop.Stop.{Stop}
-use Rattle.chain_top.specs.declared.stop.Stop.TheVariants as stops
+use Rattle.replies.specs.declared.stop.Stop.{Stop}
+use Rattle.replies.specs.declared.stop.Stop.TheVariants as stops
 use Rattle.word_lines.specs.Word.{Word, hex_of, hex_words, on_hex, with_front}
 
 module _ (check : Check) (limit : ℕ) (program : Word) (args : List Word) where

@@ -8,17 +8,18 @@ use Rattle.outside.specs.Fault.{Rose}
 use Rattle.outside.specs.Files.{Content}
 use Rattle.outside.specs.Files as files
 use Rattle.outside.specs.World.{World}
-use Rattle.chain_top.specs.Answer.{HasStatus, whole, read_fault, write_fault, no_memory, Answers, HasCauses}
-use Rattle.chain_top.specs.Asking.{PlanFor}
+use Rattle.replies.specs.Answer.{HasStatus, whole, read_fault, write_fault, no_memory, Answers, HasCauses}
+use Rattle.replies.specs.Asking.{PlanFor}
 use Rattle.chain_top.specs.Command.{Command, Vm, Init, Apply, Quorum, command_of}
 use Rattle.chain_top.specs.Known.{Known}
-use Rattle.chain_top.specs.Plan.{End, Done, Refused, Missing, Plan, Given, AreBytesGiven, GivenBy}
-use Rattle.chain_top.specs.Reply.{Choice, Reply, model_of, ended, reply_of, usage_reply, CommandReply, IsReply, ReplyFor}
-use Rattle.chain_top.specs.Steps.{Begun, Did, reads_of}
-use Rattle.chain_top.specs.Whole.{NoneFailed, IsWhole, ReplyLaws, AnswerLaws}
+use Rattle.replies.specs.Laws.{TellLaws}
+use Rattle.replies.specs.Plan.{End, Done, Refused, Missing, Plan, Given, AreBytesGiven, GivenBy}
+use Rattle.replies.specs.Reply.{Reply, ended, reply_of, usage_reply}
+use Rattle.chain_top.specs.Reply.{Choice, model_of, CommandReply, IsReply, ReplyFor}
+use Rattle.replies.specs.Steps.{Begun, Did, reads_of}
+use Rattle.replies.specs.Whole.{NoneFailed, IsWhole}
+use Rattle.chain_top.specs.Whole.{ReplyLaws, AnswerLaws}
 use Rattle.word_lines.specs.Word.{Word}
-use Rattle.chain_top.proofs.Concluding.{reads-ended}
-use Rattle.chain_top.proofs.Flat as flat
 use Rattle.chain_top.proofs.Models.{command-model}
 
 module _ (laws : Known) (hash : Hash) (check : Check) (choice : Choice) where
@@ -39,14 +40,14 @@ module _ (laws : Known) (hash : Hash) (check : Check) (choice : Choice) where
   some_for None contents are = (usage_reply, (λ n. None, refl, tt))
   some_for (Some command) contents are =
       let p = (command-model laws hash check choice command).some_for contents are in
-      (reply_of p.plan, (p.given, (p.plan, p.is_plan, refl), subst (λ (rs : List files.Read). GivenBy (Some contents) rs p.given) (sym (reads-ended p.plan.steps p.plan.end)) p.agrees))
+      (reply_of p.plan, (p.given, (p.plan, p.is_plan, refl), subst (λ (rs : List files.Read). GivenBy (Some contents) rs p.given) (sym (laws.steps.reads_ended p.plan.steps p.plan.end)) p.agrees))
 
   plan_for : (command : Command) (contents : List ℕ → Content) (reply : Reply) → (is : ForFiles (Some command) contents reply) → PlanFor (model_of hash check choice command) contents
   plan_for command contents reply (given, (plan, is, same), agrees) = record {
     given = given;
     plan = plan;
     is_plan = is;
-    agrees = subst (λ (rs : List files.Read). GivenBy (Some contents) rs given) (ap (λ (r : Reply). reads_of r.steps) same ∙ reads-ended plan.steps plan.end) agrees;
+    agrees = subst (λ (rs : List files.Read). GivenBy (Some contents) rs given) (ap (λ (r : Reply). reads_of r.steps) same ∙ laws.steps.reads_ended plan.steps plan.end) agrees;
   }
 
   one_for : (command : Option Command) (contents : List ℕ → Content) (a b : Reply) → ForFiles command contents a → ForFiles command contents b → a ≡ b
@@ -91,12 +92,12 @@ usage hash check choice (Some command) given reply is =
 
 -- ---- whole replies
 
-module _ (replies : (hash : Hash) (check : Check) → ReplyLaws hash check) (hash : Hash) (check : Check) (words : List Word) (choice : Choice) (contents : List ℕ → Content) (before after : World) (status : ℕ) (reply : Reply) where
+module _ (tell : TellLaws) (replies : (hash : Hash) (check : Check) → ReplyLaws hash check) (hash : Hash) (check : Check) (words : List Word) (choice : Choice) (contents : List ℕ → Content) (before after : World) (status : ℕ) (reply : Reply) where
   wholly : before.contents ≡ Some contents → Answers (IsReply hash check words choice) before after status → NoneFailed before after → ReplyFor hash check words choice contents reply → IsWhole reply before after status ⊎ (status ≡ 5)
   wholly told answers none is = by_status answers.has_status
     where
       causes : HasCauses before after status
-      causes = flat.causes (IsReply hash check words choice) before after status answers
+      causes = tell.causes answers.reply before after status answers.begun answers.did answers.has_status
 
       same_reply : answers.reply ≡ reply
       same_reply =
@@ -114,10 +115,16 @@ module _ (replies : (hash : Hash) (check : Check) → ReplyLaws hash check) (has
       by_status (write_fault four failed) = absurd (no_write (causes.write_fault four))
       by_status (no_memory five failed) = inr five
 
-pub answer_laws : ((hash : Hash) (check : Check) → ReplyLaws hash check) → (hash : Hash) (check : Check) → AnswerLaws hash check
-answer_laws replies hash check = record {
+pub answer_laws : TellLaws → ((hash : Hash) (check : Check) → ReplyLaws hash check) → (hash : Hash) (check : Check) → AnswerLaws hash check
+answer_laws tell replies hash check = record {
   usage = λ words choice given reply is. usage hash check choice (command_of words) given reply is;
-  whole = λ words choice contents before after status reply told answers none is. wholly replies hash check words choice contents before after status reply told answers none is;
-  goes = λ words choice before after status answers. flat.goes (IsReply hash check words choice) before after status answers;
-  causes = λ words choice before after status answers. flat.causes (IsReply hash check words choice) before after status answers;
+  whole = λ words choice contents before after status reply told answers none is. wholly tell replies hash check words choice contents before after status reply told answers none is;
+  goes = λ words choice before after status answers. record {
+    given = answers.given;
+    reply = answers.reply;
+    is_reply = answers.is_reply;
+    agrees = answers.agrees;
+    tells = tell.tells answers.reply before after status answers.begun answers.front answers.did answers.has_status;
+  };
+  causes = λ words choice before after status answers. tell.causes answers.reply before after status answers.begun answers.did answers.has_status;
 }

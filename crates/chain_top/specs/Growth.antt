@@ -9,14 +9,15 @@ use Rattle.ledger_core.specs.declared.refusal.BlockRefusal.{BlockRefusal}
 use Rattle.ledger_core.specs.Chain.{Chain, Accepted}
 use Rattle.outside.specs.Files.{Content, Write, Append, bytes_in, write_of}
 use Rattle.outside.specs.Crash.{IsMoment, MayLeave}
-use Rattle.chain_top.specs.Answer.{GoesOn, done_of}
-use Rattle.chain_top.specs.Plan.{Plan, Given, GivenBy}
-use Rattle.chain_top.specs.Steps.{Line, lines_of, reads_of, writes_of}
+use Rattle.replies.specs.Answer.{GoesOn, done_of}
+use Rattle.replies.specs.Plan.{Plan, Given, GivenBy}
+use Rattle.replies.specs.Steps.{Line, lines_of, reads_of, writes_of}
 use Rattle.data_model.specs.Files.{BlocksReadAs, block_frame}
 use Rattle.ledger_file.specs.Files.{file_spelling}
-use Rattle.chain_top.specs.Line.{accepted_line, refused_block}
+use Rattle.command_lines.specs.Line.{accepted_line, refused_block}
 use Rattle.ledger_core.specs.Refusal.{Hash}
-use Rattle.chain_top.specs.Reply.{Reply, reply_of, apply_model}
+use Rattle.replies.specs.Reply.{Reply, reply_of}
+use Rattle.chain_top.specs.Reply.{apply_model}
 use Rattle.word_lines.specs.Word.{Word}
 
 -- a file is there, and reads as these blocks

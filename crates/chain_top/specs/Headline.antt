@@ -8,11 +8,14 @@ use Rattle.outside.specs.Steps.{Read}
 use Rattle.outside.specs.World.{World}
 use Rattle.chain_top.specs.Command.{Command, Vm, Init, Apply, Quorum, command_of}
 use Rattle.chain_top.specs.Growth.{Grows, EndsGrown}
-use Rattle.chain_top.specs.Line.{refused_hex, refused_size}
-use Rattle.chain_top.specs.Loading.{most_bytes, LedgerOf, BlocksOf}
-use Rattle.chain_top.specs.Plan.{Refused}
-use Rattle.chain_top.specs.Reply.{Choice, Reply, ended, ReplyFor}
-use Rattle.chain_top.specs.Whole.{NoneFailed, IsWhole}
+use Rattle.replies.specs.Line.{refused_size}
+use Rattle.command_lines.specs.Line.{refused_hex}
+use Rattle.replies.specs.Asking.{most_bytes}
+use Rattle.chain_top.specs.Loading.{LedgerOf, BlocksOf}
+use Rattle.replies.specs.Plan.{Refused}
+use Rattle.replies.specs.Reply.{Reply, ended}
+use Rattle.chain_top.specs.Reply.{Choice, ReplyFor}
+use Rattle.replies.specs.Whole.{NoneFailed, IsWhole}
 use Rattle.word_lines.specs.Word.{Word}
 
 -- ---- the whole reply

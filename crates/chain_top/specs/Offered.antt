@@ -6,9 +6,9 @@ use Rattle.ledger_core.specs.Refusal.{Hash}
 use Rattle.outside.specs.Steps.{Step}
 use Rattle.outside.specs.World.{Io}
 use Rattle.chain_top.specs.Offers.{OfferOwes, OffersOwe}
-use Rattle.chain_top.specs.Plan.{done, Does}
+use Rattle.replies.specs.Plan.{done, Does}
 use Rattle.word_lines.specs.Word.{Word}
-use Rattle.chain_top.specs.declared.stop.Stop.{Stop}
+use Rattle.replies.specs.declared.stop.Stop.{Stop}
 
 -- One block was offered, and what it owes was done up to some step. Where it was all done, the ledger then has the
 -- blocks that the model says.

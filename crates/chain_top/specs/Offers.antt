@@ -8,8 +8,8 @@ use Rattle.ledger_core.specs.Refusal.{Hash, Refusal, ValidNext}
 use Rattle.outside.specs.Files.{Append}
 use Rattle.outside.specs.Steps.{Step, Write, Print}
 use Rattle.data_model.specs.Files.{block_frame}
-use Rattle.chain_top.specs.Line.{accepted_line, refused_block}
-use Rattle.chain_top.specs.Plan.{Plan, done, Given}
+use Rattle.command_lines.specs.Line.{accepted_line, refused_block}
+use Rattle.replies.specs.Plan.{Plan, done, Given}
 use Rattle.word_lines.specs.Word.{Word}
 
 -- What one block owes that is offered after these blocks, and the blocks after it: an accepted one is appended to the

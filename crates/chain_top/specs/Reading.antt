@@ -5,7 +5,7 @@ use Rattle.vm_run.specs.Row.{Check}
 use Rattle.vm_run.specs.declared.context.Context.TheVariants.{Nothing}
 use Rattle.vm_run.specs.declared.verdict.Verdict.{Verdict}
 use Rattle.vm_run.specs.Verdict.{HasVerdict}
-use Rattle.chain_top.specs.Line.{refused_hex, verdict_line}
+use Rattle.command_lines.specs.Line.{refused_hex, verdict_line}
 use Rattle.word_lines.specs.Word.{Word, hex_words}
 
 -- the bytes of words, the first of them at this place, or the refusal of the first that is no hex word

@@ -10,24 +10,20 @@ use Rattle.vm_run.specs.Row.{Check}
 use Rattle.vm_run.specs.declared.context.Context.TheVariants.{Nothing}
 use Rattle.vm_run.specs.declared.verdict.Verdict.{Verdict}
 use Rattle.vm_run.specs.Verdict.{HasVerdict}
-use Rattle.chain_top.specs.Asking.{asks, checks}
+use Rattle.replies.specs.Asking.{asks, checks}
 use Rattle.chain_top.specs.Command.{Command, Vm, Init, Apply, Quorum, command_of}
 use Rattle.data_model.specs.Files.{block_frame}
 use Rattle.chain_top.specs.Initial.{initial_block}
-use Rattle.chain_top.specs.Line.{usage_line, refused_hex, verdict_line, block_line, program_line}
-use Rattle.chain_top.specs.Loading.{most_bytes, LedgerOf, BlocksOf, FitsWith}
+use Rattle.replies.specs.Reply.{Reply, reply_of, usage_reply}
+use Rattle.command_lines.specs.Line.{refused_hex, verdict_line, block_line, program_line}
+use Rattle.replies.specs.Asking.{most_bytes, FitsWith}
+use Rattle.chain_top.specs.Loading.{LedgerOf, BlocksOf}
 use Rattle.chain_top.specs.Offers.{offers_model}
-use Rattle.chain_top.specs.Plan.{End, Done, Refused, Missing, Plan, done, Given, GivenBy}
+use Rattle.replies.specs.Plan.{Plan, done, Given, GivenBy}
 use Rattle.chain_top.specs.Reading.{WordsOf}
-use Rattle.chain_top.specs.Steps.{reads_of}
+use Rattle.replies.specs.Steps.{reads_of}
 use Rattle.vote_book.specs.Quorum.{quorum_of}
 use Rattle.word_lines.specs.Word.{Word, hex_of, hex_words}
-
--- The status, and what is read, written and printed, in order. The printed lines with the number of writes before each,
--- the reads and the writes are `lines_of`, `reads_of` and `writes_of` of the steps.
-pub record Reply : Type 0 where
-  pub status : ℕ
-  pub steps : List Step
 
 -- what the compiler gave for one contract: its body, and the bounds of its clauses
 pub record Compiled : Type 0 where
@@ -109,19 +105,6 @@ model_of hash check choice (Apply ledger offers) = apply_model hash check ledger
 model_of hash check choice (Quorum m keys) = quorum_model m keys
 
 -- ---- replies
-
--- a refusal is told by its line, and a missing file by the status
-abbrev pub ended : List Step → End → Reply
-ended steps Done = record { status = 0; steps = steps }
-ended steps (Refused line) = record { status = 2; steps = steps ++ Print line ∷ [] }
-ended steps Missing = record { status = 3; steps = steps }
-
-abbrev pub reply_of : Plan → Reply
-reply_of plan = ended plan.steps plan.end
-
--- the reply to words outside the grammar
-abbrev pub usage_reply : Reply
-usage_reply = record { status = 1; steps = Print usage_line ∷ [] }
 
 -- the replies to a command, or to words that are none, for what the files hold by the numbers of the reads
 abbrev pub CommandReply : Hash → Check → Choice → Option Command → Given → Reply → Type 0

@@ -3,26 +3,15 @@ use Rattle.std.specs.Prelude.{◌≡◌, ◌⊎◌, ◌↔◌, ℕ, List, Some, 
 use Rattle.vm_run.specs.Row.{Check}
 use Rattle.ledger_core.specs.Refusal.{Hash}
 use Rattle.outside.specs.Bytes.{HoldsBytes}
-use Rattle.outside.specs.Fault.{Rose}
 use Rattle.outside.specs.Files.{Content}
 use Rattle.outside.specs.World.{World}
-use Rattle.chain_top.specs.Answer.{Answers, GoesBy, HasCauses}
+use Rattle.replies.specs.Answer.{Answers, GoesBy, HasCauses}
 use Rattle.chain_top.specs.Command.{command_of}
-use Rattle.chain_top.specs.Plan.{Given, AreBytesGiven}
-use Rattle.chain_top.specs.Reply.{Choice, Reply, IsReply, ReplyFor}
-use Rattle.chain_top.specs.Steps.{all_of, Did}
+use Rattle.replies.specs.Plan.{Given, AreBytesGiven}
+use Rattle.replies.specs.Reply.{Reply}
+use Rattle.chain_top.specs.Reply.{Choice, IsReply, ReplyFor}
+use Rattle.replies.specs.Whole.{NoneFailed, IsWhole}
 use Rattle.word_lines.specs.Word.{Word}
-
--- no call on the files or on the sink failed
-pub record NoneFailed (before after : World) : Type 0 where
-  pub reads : ¬ Rose before.read_faults after.read_faults
-  pub writes : ¬ Rose before.write_faults after.write_faults
-  pub sink : ¬ Rose before.sink_faults after.sink_faults
-
--- the status is that of the reply, and its steps were all done, in order, and nothing else
-pub record IsWhole (reply : Reply) (before after : World) (status : ℕ) : Type 0 where
-  pub status_is : status ≡ reply.status
-  pub did : Did (all_of reply.steps) before after
 
 -- ---- laws
 

@@ -1,30 +1,31 @@
 // The command `apply`.
-ghost use Rattle.std.specs.Prelude.{◌≡◌, ◌+◌, ◌<◌, ◌≤◌, ◌^◌, [], ◌∷◌, length, IfOk, OnOk};
+ghost use Rattle.std.specs.Prelude.{◌≡◌, ◌+◌, ◌<◌, ◌≤◌, ◌^◌, [], ◌∷◌, length, IfOk, IfErr, OnOk};
 ghost use Rattle.entry_ids.specs.Entry.{header_id};
 ghost use Rattle.ledger_core.specs.Chain.{StandsFor};
+ghost use Rattle.outside.specs.Bytes.{AreBytes};
 ghost use Rattle.outside.specs.Files.{Append};
 ghost use Rattle.outside.specs.Steps.{Write, Print};
+ghost use Rattle.data_model.specs.Spelling.{IsBlock};
+ghost use Rattle.replies.specs.declared.stop.Stop.TheVariants as stops;
 ghost use Rattle.std.specs.Vec.Iter.{into_iter_items};
-ghost use Rattle.chain_top.specs.Asking.{Checked};
+ghost use Rattle.replies.specs.Asking.{Checked};
 ghost use Rattle.data_model.specs.Files.{IsFramed, block_frame};
 ghost use Rattle.ledger_file.specs.Files.{AreFramed};
-ghost use Rattle.chain_top.specs.Line.{accepted_line, refused_block};
-ghost use Rattle.chain_top.specs.Loading.{most_bytes, LedgerOf, BlocksOf};
+ghost use Rattle.command_lines.specs.Line.{accepted_line, refused_block};
+ghost use Rattle.replies.specs.Asking.{most_bytes};
+ghost use Rattle.chain_top.specs.Loading.{LedgerOf, BlocksOf, OfferedOf};
 ghost use Rattle.chain_top.specs.Offered.{OfferDone, OffersDone};
-ghost use Rattle.chain_top.specs.Plan.{done, Does, Follows};
-ghost use Rattle.chain_top.specs.Reply.{apply_model, offer_file_model};
+ghost use Rattle.replies.specs.Plan.{done, Does, Follows};
+ghost use Rattle.chain_top.specs.Reply.{apply_model, ledger_model, offer_file_model};
 
-use crate::ask::{ask, fit_together};
-use crate::calls::{append, say};
 use crate::known::known;
-use crate::line::accepted_line;
-use crate::refused::{refused_block, refused_file, refused_load};
-use crate::stop::Stop;
+use command_lines::{accepted_line, refused_block, refused_file, refused_load};
 use data_model::{Block, FramesFault};
 use keyed::{IdHash, SigCheck};
 use ledger_core::{Accepted, BlockRefusal, Ledger, OfferFault};
 use ledger_file::{few_blocks, frame, load};
 use outside::Outside;
+use replies::{Stop, append_and_say, ask, fit_together, say};
 use std::alloc::Global;
 use std::vec::IntoIter;
 use wire::NoMemory;
@@ -42,51 +43,62 @@ pub fn apply<O: Outside, H: IdHash, C: SigCheck>(
         (O.io out.old) (O.io out.new) result }
 {
     known();
-    let held = ask(alloc, out, ledger, 1)?;
-    let mut chain = load_ledger(alloc, hash, sigs, held.as_slice(), 1)?;
-    offer_file(
-        alloc,
-        ledger,
-        offers,
-        held.as_slice(),
-        &mut chain,
-        out,
-        hash,
-        sigs,
-    )
+    match ask(alloc, out, ledger, 1) {
+        Ok(held) => apply_to(alloc, ledger, offers, held.as_slice(), out, hash, sigs),
+        Err(stop) => Err(stop),
+    }
 }
 
-// The ledger of the file that the word at this place names.
+// Offers the blocks to the ledger of these bytes.
+fn apply_to<O: Outside, H: IdHash, C: SigCheck>(
+    alloc: Global,
+    ledger: &str,
+    offers: &str,
+    held: &[u8],
+    out: &mut O,
+    hash: &H,
+    sigs: &C,
+) -> Result<(), Stop>
+    requires held { length held.now ≤ most_bytes }
+    requires are { AreBytes held.now }
+    ensures { Follows (ledger_model (H.hash_of hash.now) (C.good_of sigs.now) ledger.now offers.now held.now)
+        (O.io out.old) (O.io out.new) result }
+{
+    known();
+    match load_ledger(alloc, hash, sigs, held) {
+        Ok(mut chain) => offer_file(alloc, ledger, offers, held, &mut chain, out, hash, sigs),
+        Err(stop) => Err(stop),
+    }
+}
+
+// The ledger of the first file.
 fn load_ledger<H: IdHash, C: SigCheck>(
     alloc: Global,
     hash: &H,
     sigs: &C,
     bytes: &[u8],
-    place: u64,
 ) -> Result<Ledger, Stop>
     requires { length bytes.now ≤ most_bytes }
     ensures ledger { Checked (λ ledger. ledger.blocks)
-        (LedgerOf (H.hash_of hash.now) (C.good_of sigs.now) place bytes.now) result }
+        (LedgerOf (H.hash_of hash.now) (C.good_of sigs.now) 1 bytes.now) result }
     ensures stands { IfOk result (StandsFor (H.hash_of hash.now) (C.good_of sigs.now)) }
 {
     match load(alloc, hash, sigs, bytes) {
         Ok(ledger) => Ok(ledger),
-        Err(fault) => Err(refused_load(alloc, place, &fault)),
+        Err(fault) => Err(refused_load(alloc, 1, &fault)),
     }
 }
 
-// The blocks of the file that the word at this place names.
-fn read_blocks(alloc: Global, bytes: &[u8], place: u64) -> Result<IntoIter<Block>, Stop>
-    ensures blocks { Checked into_iter_items (BlocksOf place bytes.now) result }
+// The blocks of the second file.
+fn read_blocks(alloc: Global, bytes: &[u8]) -> Result<IntoIter<Block>, Stop>
+    ensures blocks { Checked into_iter_items (BlocksOf 2 bytes.now) result }
     ensures framed { IfOk result (λ blocks. AreFramed (into_iter_items blocks)) }
     ensures few { IfOk result (λ blocks. length (into_iter_items blocks) ≤ length bytes.now) }
 {
     few_blocks();
     match data_model::read_blocks(alloc, bytes) {
         Ok(blocks) => Ok(blocks.into_vec().into_iter()),
-        Err(FramesFault::At { index, at, kind }) => {
-            Err(refused_file(alloc, place, index, at, kind))
-        }
+        Err(FramesFault::At { index, at, kind }) => { Err(refused_file(alloc, 2, index, at, kind)) }
         Err(FramesFault::NoMemory) => Err(Stop::NoMemory),
     }
 }
@@ -111,9 +123,19 @@ fn offer_file<O: Outside, H: IdHash, C: SigCheck>(
 {
     known();
     let bytes = ask(alloc, out, offers, 2)?;
-    let blocks = read_blocks(alloc, bytes.as_slice(), 2)?;
-    fit_together(alloc, 2, held, bytes.as_slice())?;
+    let blocks = offered(alloc, held, bytes.as_slice())?;
     offer_all(alloc, ledger, chain, blocks, out, hash, sigs)
+}
+
+// The blocks of the file of offers, where both files are together within the size of one.
+fn offered(alloc: Global, held: &[u8], bytes: &[u8]) -> Result<IntoIter<Block>, Stop>
+    ensures blocks { Checked into_iter_items (OfferedOf held.now bytes.now) result }
+    ensures framed { IfOk result (λ blocks. AreFramed (into_iter_items blocks)) }
+    ensures few { IfOk result (λ blocks. length held.now + length (into_iter_items blocks) ≤ most_bytes) }
+{
+    let blocks = read_blocks(alloc, bytes)?;
+    fit_together(alloc, 2, held, bytes)?;
+    Ok(blocks)
 }
 
 // Offers the blocks in order, and tells each.
@@ -157,11 +179,23 @@ fn offer_one<O: Outside, H: IdHash, C: SigCheck>(
         ledger.new.blocks (O.io out.old) (O.io out.new) result }
 {
     known();
-    let frame = frame(alloc, &block)?;
+    let frame = framed(alloc, &block)?;
     match ledger.offer(alloc, hash, sigs, block) {
         Ok(added) => accept(alloc, name, frame.as_slice(), &added, out),
         Err(OfferFault::Refused(refusal)) => refuse(alloc, &refusal, out),
         Err(OfferFault::NoMemory) => Err(Stop::NoMemory),
+    }
+}
+
+// The frame of a block, or want of memory.
+fn framed(alloc: Global, block: &Block) -> Result<Vec<u8>, Stop>
+    requires { IsBlock block.now }
+    ensures frame { IfOk result (λ frame. frame.items ≡ block_frame block.now) }
+    ensures memory { IfErr result (λ stop. stop ≡ stops.NoMemory) }
+{
+    match frame(alloc, block) {
+        Ok(frame) => Ok(frame),
+        Err(NoMemory) => Err(Stop::NoMemory),
     }
 }
 
@@ -177,9 +211,10 @@ fn accept<O: Outside>(
         (done (Write Append name.now frame.now ∷ Print (accepted_line added.now.height added.now.id) ∷ []))
         (O.io out.old) (O.io out.new) result }
 {
-    let line = accepted_line(alloc, added.height, &added.id)?;
-    append(out, name, frame)?;
-    say(out, line.as_bytes())
+    match accepted_line(alloc, added.height, &added.id) {
+        Ok(line) => append_and_say(out, name, frame, line.as_bytes()),
+        Err(NoMemory) => Err(Stop::NoMemory),
+    }
 }
 
 // Prints the line of a block that was refused.

@@ -6,19 +6,18 @@ ghost use Rattle.entry_ids.specs.Entry.{header_id};
 ghost use Rattle.data_model.specs.Files.{block_frame};
 ghost use Rattle.data_model.specs.Spelling.{IsBlock, IsHeader};
 ghost use Rattle.chain_top.specs.Initial.{initial_block};
-ghost use Rattle.chain_top.specs.Line.{block_line};
-ghost use Rattle.chain_top.specs.Plan.{done, Does, Follows};
+ghost use Rattle.command_lines.specs.Line.{block_line};
+ghost use Rattle.replies.specs.Plan.{done, Does, Follows};
 ghost use Rattle.chain_top.specs.Reply.{init_steps, init_model};
 
-use crate::calls::{replace, say};
-use crate::line::block_line;
-use crate::stop::Stop;
 use crate::word::hex_word;
+use command_lines::block_line;
 use data_model::{Block, Header, Txs};
 use entry_ids::block_id;
 use keyed::IdHash;
 use ledger_file::frame;
 use outside::Outside;
+use replies::{Stop, replace_and_say};
 use std::alloc::Global;
 use wire::{Args, Bytes, NoMemory};
 
@@ -35,9 +34,16 @@ pub fn init<O: Outside, H: IdHash>(
     ensures { Follows (init_model (H.hash_of hash.now) ledger.now time program.now)
         (O.io out.old) (O.io out.new) result }
 {
-    let code = hex_word(alloc, program, 3)?;
-    let block = initial_block(alloc, hash, time, code);
-    start(alloc, ledger, &block, out, hash)
+    match hex_word(alloc, program, 3) {
+        Ok(code) => start(
+            alloc,
+            ledger,
+            &initial_block(alloc, hash, time, code),
+            out,
+            hash,
+        ),
+        Err(stop) => Err(stop),
+    }
 }
 
 // Sets the ledger to the frame of this block, and then prints its line.
@@ -51,9 +57,10 @@ fn start<O: Outside, H: IdHash>(
     requires { IsBlock block.now }
     ensures { Does (done (init_steps (H.hash_of hash.now) ledger.now block.now)) (O.io out.old) (O.io out.new) result }
 {
-    let line = initial_line(alloc, hash, &block.header)?;
-    let frame = frame(alloc, block)?;
-    set(ledger, frame.as_slice(), line.as_bytes(), out)
+    match initial_line(alloc, hash, &block.header) {
+        Ok(line) => set(alloc, ledger, block, line.as_bytes(), out),
+        Err(NoMemory) => Err(Stop::NoMemory),
+    }
 }
 
 // The line of an initial block.
@@ -61,16 +68,28 @@ fn initial_line<H: IdHash>(alloc: Global, hash: &H, header: &Header) -> Result<S
     requires { IsHeader header.now }
     ensures { IfOk result (λ line. string_bytes line ≡ block_line 1 (header_id (H.hash_of hash.now) header.now)) }
 {
-    let id = block_id(alloc, hash, header)?;
-    block_line(alloc, 1, &id)
+    match block_id(alloc, hash, header) {
+        Ok(id) => block_line(alloc, 1, &id),
+        Err(NoMemory) => Err(NoMemory),
+    }
 }
 
-fn set<O: Outside>(ledger: &str, frame: &[u8], line: &[u8], out: &mut O) -> Result<(), Stop>
-    ensures { Does (done (Write Replace ledger.now frame.now ∷ Print line.now ∷ []))
+// Sets the ledger to the frame of this block, and then prints this line.
+fn set<O: Outside>(
+    alloc: Global,
+    ledger: &str,
+    block: &Block,
+    line: &[u8],
+    out: &mut O,
+) -> Result<(), Stop>
+    requires { IsBlock block.now }
+    ensures { Does (done (Write Replace ledger.now (block_frame block.now) ∷ Print line.now ∷ []))
         (O.io out.old) (O.io out.new) result }
 {
-    replace(out, ledger, frame)?;
-    say(out, line)
+    match frame(alloc, block) {
+        Ok(frame) => replace_and_say(out, ledger, frame.as_slice(), line),
+        Err(NoMemory) => Err(Stop::NoMemory),
+    }
 }
 
 fn initial_block<H: IdHash>(alloc: Global, hash: &H, time: u64, code: Bytes) -> Block

@@ -6,6 +6,7 @@ ghost use Rattle.chain_top.specs.Whole.{ReplyLaws, AnswerLaws};
 
 use crate::known::known;
 use outside::{moments_join, others_stay, starts_kept};
+use replies::replies_tell;
 
 /// The model gives one reply to all words, whatever bytes the files hold, and the choice has no part in it.
 pub fn one_reply()
@@ -18,6 +19,7 @@ pub fn one_reply()
 pub fn whole_answers()
     ensures { (hash : Hash) (check : Check) → AnswerLaws hash check }
 {
+    replies_tell();
     one_reply();
 }
 

@@ -3,41 +3,31 @@
 
 ghost use Rattle.std.specs.Prelude.{◌≡◌, Some, [], map, string_bytes};
 ghost use Rattle.outside.specs.World.{world_at};
-ghost use Rattle.chain_top.specs.Answer.{Answers, GoesBy, HasCauses};
-ghost use Rattle.chain_top.specs.Ending.{Concludes};
+ghost use Rattle.replies.specs.Answer.{Answers, GoesBy, HasCauses};
 ghost use Rattle.chain_top.specs.Headline.{DoesReply, GrowsLedger, IsComplete};
-ghost use Rattle.chain_top.specs.Plan.{Follows};
+ghost use Rattle.replies.specs.Plan.{Follows};
 ghost use Rattle.chain_top.specs.Reply.{IsReply, model_of};
 ghost use Rattle.chain_top.specs.Seen.{seen, HasLimit};
 
 mod apply;
-mod ask;
-mod calls;
 mod command;
 mod init;
 mod known;
 pub mod laws;
-mod line;
 mod quorum;
-mod refused;
-mod status;
-mod stop;
 mod vm;
 mod word;
 
 use apply::apply;
-use calls::say;
 use command::{Command, command_of};
 use init::init;
 use keyed::{IdHash, SigCheck};
 use known::known;
 use laws::{growing_ledgers, one_reply, whole_answers};
-use line::USAGE_LINE;
 use outside::{Both, Files, Outside, Sink};
 use quorum::quorum;
-use status::{USAGE, closed, status_of};
+use replies::{Stop, close, steps_join, usage};
 use std::alloc::Global;
-use stop::Stop;
 use vm::vm;
 
 /// All that the program does: it reads its words, the command first, does the command over these files, prints to
@@ -118,26 +108,10 @@ fn answer<O: Outside, H: IdHash, C: SigCheck>(
     ensures answers { Answers (IsReply (H.hash_of hash.now) (C.good_of sigs.now) (map string_bytes words.now) [])
         (O.io out.old).world (O.io out.new).world result }
 {
-    status_of(execute(alloc, words, out, hash, sigs))
-}
-
-// Does what the words say.
-fn execute<O: Outside, H: IdHash, C: SigCheck>(
-    alloc: Global,
-    words: &[String],
-    out: &mut O,
-    hash: &H,
-    sigs: &C,
-) -> Result<u8, Stop>
-    ensures { Concludes (IsReply (H.hash_of hash.now) (C.good_of sigs.now) (map string_bytes words.now) [])
-        (O.io out.old) (O.io out.new) result }
-{
+    steps_join();
     match command_of(words) {
-        Some(command) => closed(run(alloc, command, out, hash, sigs), out),
-        None => {
-            say(out, USAGE_LINE)?;
-            Ok(USAGE)
-        }
+        Some(command) => close(run(alloc, command, out, hash, sigs), out),
+        None => usage(out),
     }
 }
 

@@ -1,17 +1,17 @@
 // The command `quorum`.
-ghost use Rattle.std.specs.Prelude.{◌≤◌, length, map, string_bytes};
-ghost use Rattle.chain_top.specs.Plan.{done, Does, Follows};
+ghost use Rattle.std.specs.Prelude.{◌≡◌, ◌≤◌, length, map, string_bytes, IfOk};
+ghost use Rattle.command_lines.specs.Line.{program_line};
+ghost use Rattle.replies.specs.Plan.{done, Does, Follows};
 ghost use Rattle.chain_top.specs.Reply.{quorum_steps, quorum_model};
-ghost use Rattle.vote_book.specs.Quorum.{IsQuorum};
+ghost use Rattle.vote_book.specs.Quorum.{IsQuorum, quorum_of};
 
-use crate::calls::say;
-use crate::line::program_line;
-use crate::stop::Stop;
 use crate::word::hex_words;
+use command_lines::program_line;
 use outside::Outside;
+use replies::{Stop, say};
 use std::alloc::Global;
 use vote_book::quorum_program;
-use wire::Args;
+use wire::{Args, NoMemory};
 
 /// Tells the program that a block satisfies whose id is signed for `m` of these keys.
 pub fn quorum<O: Outside>(alloc: Global, m: u64, keys: &[String], out: &mut O) -> Result<(), Stop>
@@ -20,8 +20,10 @@ pub fn quorum<O: Outside>(alloc: Global, m: u64, keys: &[String], out: &mut O) -
     requires few { length keys.now ≤ 16 }
     ensures { Follows (quorum_model m (map string_bytes keys.now)) (O.io out.old) (O.io out.new) result }
 {
-    let keys = hex_words(alloc, keys, 2)?;
-    tell(alloc, m, &keys, out)
+    match hex_words(alloc, keys, 2) {
+        Ok(keys) => tell(alloc, m, &keys, out),
+        Err(stop) => Err(stop),
+    }
 }
 
 // Tells the program of a quorum.
@@ -29,7 +31,19 @@ fn tell<O: Outside>(alloc: Global, m: u64, keys: &Args, out: &mut O) -> Result<(
     requires { IsQuorum keys.now m }
     ensures { Does (done (quorum_steps keys.now m)) (O.io out.old) (O.io out.new) result }
 {
-    let program = quorum_program(alloc, keys, m)?;
-    let line = program_line(alloc, program.as_slice())?;
-    say(out, line.as_bytes())
+    match quorum_line(alloc, m, keys) {
+        Ok(line) => say(out, line.as_bytes()),
+        Err(NoMemory) => Err(Stop::NoMemory),
+    }
+}
+
+// The line of the program of a quorum.
+fn quorum_line(alloc: Global, m: u64, keys: &Args) -> Result<String, NoMemory>
+    requires { IsQuorum keys.now m }
+    ensures { IfOk result (λ line. string_bytes line ≡ program_line (quorum_of keys.now m)) }
+{
+    match quorum_program(alloc, keys, m) {
+        Ok(program) => program_line(alloc, program.as_slice()),
+        Err(vote_book::NoMemory) => Err(NoMemory),
+    }
 }

@@ -1,20 +1,19 @@
 // The command `vm`.
 ghost use Rattle.std.specs.Prelude.{◌≡◌, ◌+◌, ◌<◌, ◌≤◌, ◌^◌, length, map, string_bytes};
-ghost use Rattle.chain_top.specs.Asking.{Checked};
-ghost use Rattle.chain_top.specs.Plan.{Follows};
+ghost use Rattle.replies.specs.Asking.{Checked};
+ghost use Rattle.replies.specs.Plan.{Follows};
 ghost use Rattle.chain_top.specs.Reading.{LineOfRun};
 ghost use Rattle.chain_top.specs.Reply.{VmLine, vm_model};
 
-use crate::calls::say;
 use crate::known::known;
-use crate::line::verdict_line;
-use crate::stop::Stop;
 use crate::word::{hex_word, hex_words};
+use command_lines::verdict_line;
 use keyed::SigCheck;
 use outside::Outside;
+use replies::{Stop, say};
 use std::alloc::Global;
 use vm_run::{Context, verify};
-use wire::Args;
+use wire::{Args, NoMemory};
 
 /// Runs a program with no context on its arguments, and tells the verdict.
 pub fn vm<O: Outside, C: SigCheck>(
@@ -31,8 +30,10 @@ pub fn vm<O: Outside, C: SigCheck>(
         (O.io out.old) (O.io out.new) result }
 {
     known();
-    let line = vm_line(alloc, limit, program, args, sigs)?;
-    say(out, line.as_bytes())
+    match vm_line(alloc, limit, program, args, sigs) {
+        Ok(line) => say(out, line.as_bytes()),
+        Err(stop) => Err(stop),
+    }
 }
 
 // The line of the verdict.
@@ -64,6 +65,11 @@ fn line_of_run<C: SigCheck>(
     requires { limit ≤ 100000 }
     ensures { Checked string_bytes (LineOfRun (C.good_of sigs.now) limit program.now args.now) result }
 {
-    let verdict = verify(alloc, &Context::Nothing, sigs, program, args, limit)?;
-    Ok(verdict_line(alloc, verdict)?)
+    match verify(alloc, &Context::Nothing, sigs, program, args, limit) {
+        Ok(verdict) => match verdict_line(alloc, verdict) {
+            Ok(line) => Ok(line),
+            Err(NoMemory) => Err(Stop::NoMemory),
+        },
+        Err(vm_run::NoMemory) => Err(Stop::NoMemory),
+    }
 }

@@ -1,12 +1,12 @@
 // Hex words in their places. One that is none is refused.
 ghost use Rattle.std.specs.Prelude.{◌≡◌, ◌+◌, ◌<◌, ◌≤◌, ◌^◌, length, IfOk, map, string_bytes};
 ghost use Rattle.std.specs.List.{AllByRecursion};
-ghost use Rattle.chain_top.specs.Asking.{Checked};
+ghost use Rattle.replies.specs.Asking.{Checked};
 ghost use Rattle.chain_top.specs.Reading.{WordsOf};
 ghost use Rattle.chain_top.specs.Reply.{HexOf};
 
-use crate::refused::refused_hex;
-use crate::stop::Stop;
+use command_lines::refused_hex;
+use replies::Stop;
 use std::alloc::Global;
 use wire::{Args, Bytes, NoMemory};
 

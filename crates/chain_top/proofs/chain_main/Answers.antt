@@ -46,7 +46,7 @@ returns-clause-growth g c =
     let at = world_at g.S.Sink.held g.S.Sink.faults g.F.Files.contents g.F.Files.reads g.F.Files.writes g.F.Files.read_faults g.F.Files.write_faults in
     let before = at c.args.out.now c.args.files.now in
     let after = at c.answer_over.new.out c.answer_over.new.files in
-    grows-ledger c.one_reply.ensures c.whole_answers.ensures hash check words [] before after c.answer_over.result (λ contents name told. g.met.F.Files.contents_are_bytes c.args.files.now contents name told) c.answer_over.ensures (c.growing_ledgers.ensures hash check)
+    grows-ledger c.one_reply.ensures c.whole_answers.ensures hash check words [] before after c.answer_over.result (λ contents name told. g.met.F.Files.contents_are_bytes c.args.files.now contents name told) c.answer_over.ensures c.known.ensures.steps (c.growing_ledgers.ensures hash check)
 
 pub returns-clause-complete : goal.returns-clause-complete
 returns-clause-complete g c =

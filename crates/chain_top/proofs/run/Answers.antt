@@ -1,5 +1,5 @@
 use Rattle.std.proofs.Common.{[], sym, subst}
-use Rattle.chain_top.specs.Plan.{Follows}
+use Rattle.replies.specs.Plan.{Follows}
 use Rattle.chain_top.specs.Reply.{model_of}
 use Rattle.chain_top.specs.Seen.{seen}
 use Rattle.chain_top.proofs.run.Goals as goal

@@ -1,16 +1,16 @@
 use Rattle.std.proofs.Common.{refl, ap, ◌∙◌}
-use Rattle.chain_top.specs.Line.{accepted_line}
-use Rattle.chain_top.proofs.Offering.{offer-none, offer-memory, offer-accepted, offer-refused}
+use Rattle.command_lines.specs.Line.{accepted_line}
+use Rattle.chain_top.proofs.Offering.{offer-passed, offer-memory, offer-accepted, offer-refused}
 use Rattle.chain_top.proofs.apply.offer_one.Goals as goal
 
 pub returns-in_err-frame-clause-done : goal.returns-in_err-frame-clause-done
-returns-in_err-frame-clause-done g c = offer-none c.known.ensures _ _ _ _ _ _ _ _ c.requires.stands.chain c.from_residual.ensures.1
+returns-in_err-frame-clause-done g c = offer-passed c.known.ensures _ _ _ _ _ _ _ _ _ c.requires.stands.chain c.from_residual.ensures.1 c.in_err-frame.ensures.memory
 
 pub returns-in-Ok-clause-done : goal.returns-in-Ok-clause-done
 returns-in-Ok-clause-done g c =
     let answer = c.in-Ok.ensures.answer in
     let told = ap (λ h. accepted_line h c.in-Ok.added.id) answer.0 ∙ ap (λ i. accepted_line c.args.block.header.height i) answer.1 in
-    offer-accepted c.known.ensures _ _ _ _ c.args.block _ _ _ _ _ _ c.in-Ok.ensures.valid c.in-Ok.ensures.added (c.as_slice.ensures.value ∙ c.in_ok-frame.ensures) told c.accept.ensures
+    offer-accepted c.known.ensures _ _ _ _ c.args.block _ _ _ _ _ _ c.in-Ok.ensures.valid c.in-Ok.ensures.added (c.as_slice.ensures.value ∙ c.in_ok-frame.ensures.frame) told c.accept.ensures
 
 pub returns-in-Err-Refused-clause-done : goal.returns-in-Err-Refused-clause-done
 returns-in-Err-Refused-clause-done g c =
@@ -19,8 +19,8 @@ returns-in-Err-Refused-clause-done g c =
 pub returns-clause-done : goal.returns-clause-done
 returns-clause-done g c = offer-memory c.known.ensures _ _ _ _ _ _ _ c.requires.stands.chain
 
-pub frame-requires : goal.frame-requires
-frame-requires g c = c.requires.framed.0
+pub framed-requires : goal.framed-requires
+framed-requires g c = c.requires.framed.0
 
 pub offer-requires-clause-stands : goal.offer-requires-clause-stands
 offer-requires-clause-stands g c = c.requires.stands

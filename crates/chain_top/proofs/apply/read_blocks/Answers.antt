@@ -6,7 +6,8 @@ use Rattle.data_model.specs.Files.{BlocksReadAs}
 use Rattle.wire.specs.Files.{FileFault}
 use Rattle.wire.specs.declared.files.FramesFault.{FramesFault}
 use Rattle.ledger_file.specs.Files.{AreFramed}
-use Rattle.chain_top.specs.Loading.{BlocksOf, file_line}
+use Rattle.command_lines.specs.Faults.{file_line}
+use Rattle.chain_top.specs.Loading.{BlocksOf}
 use Rattle.chain_top.proofs.Asking.{checked-refused}
 use Rattle.chain_top.proofs.apply.read_blocks.Goals as goal
 
@@ -31,4 +32,4 @@ returns-in-Ok-clause-framed c =
 pub returns-in-Err-At-clause-blocks : goal.returns-in-Err-At-clause-blocks
 returns-in-Err-At-clause-blocks c =
     let f : FileFault = record { index = c.in-Err-At.index; at = c.in-Err-At.at; kind = c.in-Err-At.kind } in
-    checked-refused (into_iter_items {Z = Global}) (BlocksOf c.args.place c.args.bytes.now) (file_line c.args.place f) _ c.refused_file.ensures (f, c.in-Err-At.ensures.fault f (ap faulted c.in-Err-At.field-0-is), refl)
+    checked-refused (into_iter_items {Z = Global}) (BlocksOf 2 c.args.bytes.now) (file_line 2 f) _ c.refused_file.ensures (f, c.in-Err-At.ensures.fault f (ap faulted c.in-Err-At.field-0-is), refl)

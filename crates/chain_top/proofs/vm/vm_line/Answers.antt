@@ -1,7 +1,7 @@
 use Rattle.std.proofs.Common.{ℕ, List, map, subst}
 use Rattle.std.specs.Prelude.{string_bytes}
 use Rattle.std.specs.declared.alloc.Global.{Global}
-use Rattle.chain_top.specs.Asking.{Checked}
+use Rattle.replies.specs.Asking.{Checked}
 use Rattle.chain_top.specs.Reading.{WordsOf, LineOfRun}
 use Rattle.chain_top.specs.Reply.{HexOf, VmLine}
 use Rattle.chain_top.proofs.Asking.{checked-passed}

@@ -1,0 +1,8 @@
+//! The lines that commands print: verdicts, blocks and programs, and refusals with the values that break their rules.
+#![tactic(auto)]
+
+mod line;
+mod refused;
+
+pub use line::{accepted_line, block_line, program_line, verdict_line};
+pub use refused::{refused_block, refused_file, refused_hex, refused_load};

@@ -1,0 +1,10 @@
+pub mod Answer
+pub mod Asking
+pub mod Ending
+pub mod Laws
+pub mod Line
+pub mod Plan
+pub mod Refused
+pub mod Reply
+pub mod Steps
+pub mod Whole
