@@ -10,7 +10,7 @@ use Rattle.replies.specs.Laws.{StepLaws}
 use Rattle.replies.specs.Plan.{Given, Plan, GivenBy, Went, WentBy}
 use Rattle.replies.specs.Reply.{Reply, reply_of, usage_reply}
 use Rattle.replies.specs.declared.stop.Stop.{Stop}
-use Rattle.chain_top.specs.Command.{Command, command_of}
+use Rattle.command_words.specs.Command.{Command, command_of}
 use Rattle.chain_top.specs.Reply.{Choice, model_of, CommandReply, IsReply}
 use Rattle.word_lines.specs.Word.{Word}
 

@@ -11,7 +11,7 @@ use Rattle.outside.specs.Steps.{Read}
 use Rattle.outside.specs.World.{World}
 use Rattle.replies.specs.Answer.{Answers, GoesOn}
 use Rattle.replies.specs.Asking.{asks, missing, too_long, found, checks, refused, goes_on, IsCheck}
-use Rattle.chain_top.specs.Command.{Command, Vm, Init, Apply, Quorum, command_of}
+use Rattle.command_words.specs.Command.{Command, Vm, Init, Apply, Quorum, command_of}
 use Rattle.chain_top.specs.Known.{Known}
 use Rattle.chain_top.specs.Growth.{Grows, GrowthLaws, ApplyFor, appends}
 use Rattle.chain_top.specs.Headline.{DoesReply, Grown, GrowsLedger, FilesRead, OwnRefusal, IsComplete}

@@ -9,7 +9,7 @@ use Rattle.ledger_core.specs.Refusal.{Hash, Refusal}
 use Rattle.outside.specs.Bytes.{AreBytes}
 use Rattle.outside.specs.Steps.{Step, Print}
 use Rattle.replies.specs.Asking.{checks, IsModel, IsCheck}
-use Rattle.chain_top.specs.Command.{Command, Vm, Init, Apply, Quorum}
+use Rattle.command_words.specs.Command.{Command, Vm, Init, Apply, Quorum}
 use Rattle.chain_top.specs.Known.{Known}
 use Rattle.chain_top.specs.Initial.{initial_block}
 use Rattle.replies.specs.Line.{refused_size}

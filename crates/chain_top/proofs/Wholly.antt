@@ -10,7 +10,7 @@ use Rattle.outside.specs.Files as files
 use Rattle.outside.specs.World.{World}
 use Rattle.replies.specs.Answer.{HasStatus, whole, read_fault, write_fault, no_memory, Answers, HasCauses}
 use Rattle.replies.specs.Asking.{PlanFor}
-use Rattle.chain_top.specs.Command.{Command, Vm, Init, Apply, Quorum, command_of}
+use Rattle.command_words.specs.Command.{Command, Vm, Init, Apply, Quorum, command_of}
 use Rattle.chain_top.specs.Known.{Known}
 use Rattle.replies.specs.Laws.{TellLaws}
 use Rattle.replies.specs.Plan.{End, Done, Refused, Missing, Plan, Given, AreBytesGiven, GivenBy}

@@ -6,7 +6,7 @@ use Rattle.vm_run.specs.Row.{Check}
 use Rattle.outside.specs.Files.{Content}
 use Rattle.outside.specs.Steps.{Read}
 use Rattle.outside.specs.World.{World}
-use Rattle.chain_top.specs.Command.{Command, Vm, Init, Apply, Quorum, command_of}
+use Rattle.command_words.specs.Command.{Command, Vm, Init, Apply, Quorum, command_of}
 use Rattle.chain_top.specs.Growth.{Grows, EndsGrown}
 use Rattle.replies.specs.Line.{refused_size}
 use Rattle.command_lines.specs.Line.{refused_hex}

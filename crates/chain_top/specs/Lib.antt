@@ -1,4 +1,3 @@
-pub mod Command
 pub mod Growth
 pub mod Headline
 pub mod Initial
@@ -8,5 +7,4 @@ pub mod Offered
 pub mod Offers
 pub mod Reading
 pub mod Reply
-pub mod Seen
 pub mod Whole

@@ -1,5 +1,5 @@
 -- What a command checks of the files of blocks that it read.
-use Rattle.std.specs.Prelude.{◌⊎◌, ℕ, List, [], Result, Ok, Err}
+use Rattle.std.specs.Prelude.{◌⊎◌, ℕ, List, Result, Ok, Err}
 use Rattle.data_model.specs.declared.block.Block.{Block}
 use Rattle.data_model.specs.Files.{BlocksReadAs}
 use Rattle.vm_run.specs.Row.{Check}

@@ -1,5 +1,5 @@
 -- What a call of the program answers: the model.
-use Rattle.std.specs.Prelude.{◌≡◌, ℕ, List, [], ◌∷◌, ◌++◌, Option, Some, None, Result, Ok, Err}
+use Rattle.std.specs.Prelude.{◌≡◌, ℕ, List, [], ◌∷◌, Option, Some, None, Result, Ok, Err}
 use Rattle.data_model.specs.declared.block.Block.{Block}
 use Rattle.entry_ids.specs.Entry.{header_id}
 use Rattle.ledger_core.specs.Refusal.{Hash}
@@ -11,7 +11,7 @@ use Rattle.vm_run.specs.declared.context.Context.TheVariants.{Nothing}
 use Rattle.vm_run.specs.declared.verdict.Verdict.{Verdict}
 use Rattle.vm_run.specs.Verdict.{HasVerdict}
 use Rattle.replies.specs.Asking.{asks, checks}
-use Rattle.chain_top.specs.Command.{Command, Vm, Init, Apply, Quorum, command_of}
+use Rattle.command_words.specs.Command.{Command, Vm, Init, Apply, Quorum, command_of}
 use Rattle.data_model.specs.Files.{block_frame}
 use Rattle.chain_top.specs.Initial.{initial_block}
 use Rattle.replies.specs.Reply.{Reply, reply_of, usage_reply}

@@ -6,7 +6,7 @@ use Rattle.outside.specs.Bytes.{HoldsBytes}
 use Rattle.outside.specs.Files.{Content}
 use Rattle.outside.specs.World.{World}
 use Rattle.replies.specs.Answer.{Answers, GoesBy, HasCauses}
-use Rattle.chain_top.specs.Command.{command_of}
+use Rattle.command_words.specs.Command.{command_of}
 use Rattle.replies.specs.Plan.{Given, AreBytesGiven}
 use Rattle.replies.specs.Reply.{Reply}
 use Rattle.chain_top.specs.Reply.{Choice, IsReply, ReplyFor}

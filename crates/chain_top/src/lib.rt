@@ -7,10 +7,9 @@ ghost use Rattle.replies.specs.Answer.{Answers, GoesBy, HasCauses};
 ghost use Rattle.chain_top.specs.Headline.{DoesReply, GrowsLedger, IsComplete};
 ghost use Rattle.replies.specs.Plan.{Follows};
 ghost use Rattle.chain_top.specs.Reply.{IsReply, model_of};
-ghost use Rattle.chain_top.specs.Seen.{seen, HasLimit};
+ghost use Rattle.command_words.specs.Seen.{seen, HasLimit};
 
 mod apply;
-mod command;
 mod init;
 mod known;
 pub mod laws;
@@ -19,7 +18,7 @@ mod vm;
 mod word;
 
 use apply::apply;
-use command::{Command, command_of};
+use command_words::{Command, command_of};
 use init::init;
 use keyed::{IdHash, SigCheck};
 use known::known;

@@ -1,5 +1,5 @@
 -- What a function answers that refuses for a fault of a file.
-use Rattle.std.specs.Prelude.{◌≡◌, ℕ, List, ◌++◌, string_bytes}
+use Rattle.std.specs.Prelude.{◌≡◌, ℕ, List, ◌++◌}
 use Rattle.replies.specs.Refused.{RefusesBy}
 use Rattle.command_lines.specs.Faults.{load_line}
 use Rattle.word_lines.specs.Piece.{joined, text_of}

@@ -2,7 +2,7 @@ use Rattle.std.proofs.Common.{[], map}
 use Rattle.std.specs.Prelude.{string_bytes}
 use Rattle.std.specs.declared.alloc.Global.{Global}
 use Rattle.replies.specs.Plan.{stop_of}
-use Rattle.chain_top.specs.Seen.{seen}
+use Rattle.command_words.specs.Seen.{seen}
 use Rattle.chain_top.proofs.Concluding.{concludes-command, concludes-usage, as-answers}
 use Rattle.chain_top.proofs.answer.Goals as goal
 

@@ -1,7 +1,7 @@
 use Rattle.std.proofs.Common.{[], sym, subst}
 use Rattle.replies.specs.Plan.{Follows}
 use Rattle.chain_top.specs.Reply.{model_of}
-use Rattle.chain_top.specs.Seen.{seen}
+use Rattle.command_words.specs.Seen.{seen}
 use Rattle.chain_top.proofs.run.Goals as goal
 
 pub returns-in-Init : goal.returns-in-Init

@@ -1,5 +1,4 @@
 use Rattle.std.proofs.Common.{List, ℕ, subst}
-use Rattle.outside.specs.Bytes.{AreBytes}
 use Rattle.replies.specs.Asking.{most_bytes}
 use Rattle.replies.specs.Plan.{stop_of, Follows}
 use Rattle.chain_top.specs.Reply.{ledger_model}

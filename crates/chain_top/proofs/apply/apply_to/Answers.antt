@@ -1,4 +1,3 @@
-use Rattle.std.proofs.Common.{arith}
 use Rattle.ledger_core.specs.Held.{Held}
 use Rattle.replies.specs.Plan.{stop_of}
 use Rattle.chain_top.specs.Loading.{LedgerOf}

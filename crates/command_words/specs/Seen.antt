@@ -1,8 +1,8 @@
 -- What a contract sees of a command that was read.
 use Rattle.std.specs.Prelude.{◌≤◌, length, Option, Some, None, map, string_bytes}
-use Rattle.chain_top.specs.declared.command.Command.{Command as RustCommand}
-use Rattle.chain_top.specs.declared.command.Command.TheVariants as rust
-use Rattle.chain_top.specs.Command.{Command, Vm, Init, Apply, Quorum, limit_most}
+use Rattle.command_words.specs.declared.grammar.Command.{Command as RustCommand}
+use Rattle.command_words.specs.declared.grammar.Command.TheVariants as rust
+use Rattle.command_words.specs.Command.{Command, Vm, Init, Apply, Quorum, limit_most}
 use Rattle.word_lines.specs.Word.{decimal_most}
 
 abbrev pub seen : RustCommand → Command

@@ -1,7 +1,7 @@
 // The grammar of words.
 ghost use Rattle.std.specs.Prelude.{◌≡◌, ◌+◌, ◌<◌, ◌^◌, length, map, string_bytes, IfSome};
-ghost use Rattle.chain_top.specs.Command.{command_of, vm_words, init_words, apply_words, quorum_words};
-ghost use Rattle.chain_top.specs.Seen.{seen_command, HasLimit};
+ghost use Rattle.command_words.specs.Command.{command_of, vm_words, init_words, apply_words, quorum_words};
+ghost use Rattle.command_words.specs.Seen.{seen_command, HasLimit};
 
 use word_lines::{decimal, decimal_within};
 
