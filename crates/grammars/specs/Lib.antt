@@ -1,0 +1,17 @@
+pub mod Text
+pub mod Whole
+pub mod Once
+pub mod Outcome
+pub mod Heads
+pub mod Part
+pub mod Sequence
+pub mod Bits
+pub mod Chain
+pub mod Depth
+pub mod Examples
+pub mod Gathered
+pub mod Perhaps
+pub mod Taken
+pub mod Paired
+pub mod Rules
+pub mod Places

@@ -1,0 +1,2 @@
+//! Grammars over tokens.
+#![tactic(auto)]
