@@ -1,0 +1,15 @@
+pub mod Spelling
+pub mod Token
+pub mod Tokens
+pub mod Lexing
+pub mod Attributes
+pub mod By
+pub mod Laws
+pub mod Grammar
+pub mod Descent
+pub mod Texts
+pub mod Limiting
+pub mod Compared
+pub mod Shown
+pub mod Spaced
+pub mod Printing

@@ -1,0 +1,41 @@
+ghost use Rattle.std.specs.Prelude.{◌≡◌};
+ghost use Rattle.filter_syntax.specs.declared.fault.FilterFault.TheVariants as faults;
+
+use std::alloc::{AllocError, AllocFailed};
+use wire::NoMemory;
+
+/// Why a text could not be read.
+#[derive(Clone, Copy, Debug, PartialEq, Eq)]
+pub enum FilterFault {
+    /// The text is none of the grammar: the place, in bytes from 0, of the first token with which none goes on behind
+    /// the tokens before it. The text's end is the last of its tokens.
+    Syntax { at: u64 },
+    /// The text is one of the grammar: the place of the first name that is no attribute there.
+    UnknownAttribute { at: u64 },
+    /// Memory was wanted and not found.
+    NoMemory,
+}
+
+impl From<NoMemory> for FilterFault {
+    ghost from_gives = { λ _ fault. fault ≡ faults.NoMemory };
+
+    fn from(_: NoMemory) -> FilterFault {
+        FilterFault::NoMemory
+    }
+}
+
+impl From<AllocError> for FilterFault {
+    ghost from_gives = { λ _ fault. fault ≡ faults.NoMemory };
+
+    fn from(_: AllocError) -> FilterFault {
+        FilterFault::NoMemory
+    }
+}
+
+impl<T: Drop> From<AllocFailed<T>> for FilterFault {
+    ghost from_gives = { λ _ fault. fault ≡ faults.NoMemory };
+
+    fn from(_: AllocFailed<T>) -> FilterFault {
+        FilterFault::NoMemory
+    }
+}
