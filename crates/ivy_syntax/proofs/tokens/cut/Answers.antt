@@ -1,0 +1,55 @@
+use Rattle.std.proofs.Common.{◌∙◌, ap, sym, length, arith, ◌++◌, ◌∷◌, [], ◌+◌, drop}
+use Rattle.ivy_syntax.specs.Cutting.{cuts}
+use Rattle.std.proofs.lemmas.List.{take_rest, length-drop}
+use Rattle.ivy_syntax.proofs.Steps.{step_blank, step_token, step_wrong, step_end, none_here, none_further, none_since}
+use Rattle.ivy_syntax.proofs.tokens.cut.Goals as goal
+use Rattle.ivy_syntax.proofs.tokens.cut.Goals.{then-unclosed, else-unclosed}
+
+pub front-requires-clause-unclosed : goal.front-requires-clause-unclosed
+front-requires-clause-unclosed c =
+    λ t. none_here c.args.text.now c.loop-at.at (c.loop-at.invariant.unclosed t)
+
+pub loop-at-preserved-in-Blank : goal.loop-at-preserved-in-Blank
+loop-at-preserved-in-Blank c = record {
+  whole = step_blank c.args.text.now c.loop-at.at c.loop-at.lexemes.items c.loop-at.invariant.whole c.in-Blank.len
+      c.in-Blank.ensures.value c.in-Blank.ensures.within;
+  within = omega (
+    arith,
+    c.in-Blank.ensures.within,
+    ap length (take_rest c.args.text.now c.loop-at.at),
+    length-drop c.loop-at.at c.args.text.now,
+  );
+  unclosed = λ t. none_further c.args.text.now c.loop-at.at c.in-Blank.len (c.loop-at.invariant.unclosed t);
+}
+
+pub loop-at-preserved : goal.loop-at-preserved
+loop-at-preserved c = record {
+  whole = ap (λ ls. ls ++ cuts (c.loop-at.at + c.in-Token.len) (drop (c.loop-at.at + c.in-Token.len) c.args.text.now))
+      c.in_ok-push-in-Token.ensures.items
+      ∙ step_token c.args.text.now c.loop-at.at c.loop-at.lexemes.items c.loop-at.invariant.whole c.in-Token.kind
+      c.in-Token.len c.in-Token.ensures.value c.in-Token.ensures.within;
+  within = omega (
+    arith,
+    c.in-Token.ensures.within,
+    ap length (take_rest c.args.text.now c.loop-at.at),
+    length-drop c.loop-at.at c.args.text.now,
+  );
+  unclosed = λ t. elim c.if-unclosed.branch [
+    | then-unclosed w ↦ none_further c.args.text.now c.loop-at.at c.in-Token.len
+        (c.loop-at.invariant.unclosed w.if-unclosed.true)
+    | else-unclosed w ↦ none_since c.args.text.now c.loop-at.at c.in-Token.len c.in-Token.kind
+        c.in-Token.ensures.value c.in-Token.ensures.within
+        (sym w.begins_block-unclosed.ensures ∙ sym w.unclosed-is ∙ t)
+  ];
+}
+
+pub returns-in-Wrong : goal.returns-in-Wrong
+returns-in-Wrong c =
+    c.in_ok-push-in-Wrong.ensures.items ∙ ap (λ l. c.loop-at.lexemes.items ++ l ∷ []) c.point.ensures
+    ∙ step_wrong c.args.text.now c.loop-at.at c.loop-at.lexemes.items c.loop-at.invariant.whole
+    c.in-Wrong.ensures.value c.loop-at-test.true
+
+pub returns : goal.returns
+returns c =
+    c.in_ok-push.ensures.items ∙ ap (λ l. c.loop-at.lexemes.items ++ l ∷ []) c.point-2.ensures
+    ∙ step_end c.args.text.now c.loop-at.at c.loop-at.lexemes.items c.loop-at.invariant.whole c.loop-at-test.false
