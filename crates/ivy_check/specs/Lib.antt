@@ -1,0 +1,11 @@
+pub mod Tests
+pub mod Types
+pub mod Functions
+pub mod Scope
+pub mod Expressions
+pub mod Statements
+pub mod Uses
+pub mod Declarations
+pub mod TypeFault
+pub mod Walk
+pub mod Laws

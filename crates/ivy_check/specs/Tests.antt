@@ -1,0 +1,36 @@
+-- Tests in the order of a walk over a text, of which the first that holds is told, by its place and its kind.
+use Rattle.std.specs.Prelude.{ℕ, Bool, List, [], ◌∷◌, ◌++◌, Option, Some, None, IsTrue, if◌then◌else◌}
+use Rattle.wire.specs.Tables.{Line, Tells}
+
+-- what is told: the place and the kind of a fault
+abbrev pub Told : Type 0
+Told = ℕ × ℕ
+
+-- a test: whether it holds, and the fault that stands then
+pub record Test : Type 0 where
+  pub holds : Bool
+  pub at : ℕ
+  pub kind : ℕ
+
+-- a fault of this kind stands at this place where that holds
+abbrev pub fault : (kind at : ℕ) → Bool → List Test
+fault kind at holds = record { holds = holds; at = at; kind = kind } ∷ []
+
+-- a test as a line of a table
+abbrev pub line_of : Test → Line Told
+line_of test = Tells (IsTrue test.holds) (test.at, test.kind)
+
+-- tests as a table
+abbrev pub lines : List Test → List (Line Told)
+lines [] = []
+lines (test ∷ tests) = line_of test ∷ lines tests
+
+-- what the first test that holds tells
+abbrev pub first_of : List Test → Option Told
+first_of [] = None
+first_of (test ∷ tests) = if test.holds then Some (test.at, test.kind) else first_of tests
+
+-- the tests of things in order, each of which may look at those before it
+abbrev pub walked : {A : Type 0} → (List A → A → List Test) → (before things : List A) → List Test
+walked tests before [] = []
+walked tests before (thing ∷ things) = tests before thing ++ walked tests (before ++ thing ∷ []) things

@@ -1,0 +1,57 @@
+-- The type faults of a source: the first test that holds, in the order of the text.
+use Rattle.std.specs.Prelude.{◌≡◌, ◌||◌, List, [], ◌∷◌, ◌++◌, Some, None}
+use Rattle.std.specs.List.{list_any}
+use Rattle.wire.specs.Tables.{Line}
+use Rattle.ivy_syntax.specs.declared.tree.Req.{Req}
+use Rattle.ivy_syntax.specs.declared.tree.ClauseTree.{ClauseTree}
+use Rattle.ivy_syntax.specs.declared.tree.Contract.{Contract}
+use Rattle.ivy_syntax.specs.declared.tree.Source.{Source}
+use Rattle.ivy_check.specs.Tests.{Test, Told, lines, first_of, walked}
+use Rattle.ivy_check.specs.Scope.{Scope, is_name, is_parameter, is_required}
+use Rattle.ivy_check.specs.Statements.{statement_tests, left_tests, sides_tests}
+use Rattle.ivy_check.specs.Uses.{unused_tests}
+use Rattle.ivy_check.specs.Declarations.{declared, is_outside, param_tests}
+
+-- a requirement behind others: its name, its amount and its asset
+abbrev pub req_tests : Scope → (before : List Req) → Req → List Test
+req_tests scope before req =
+    declared 2 req.name
+    (is_outside (Some scope.contract) req.name.name || is_parameter req.name.name scope.clause.params
+    || is_required req.name.name before)
+    ++ sides_tests scope req
+
+-- what stands in a clause, and what is left or unused at its end
+abbrev pub inside_tests : Scope → List Test
+inside_tests scope =
+    param_tests (Some scope.contract) scope.clause.params
+    ++ walked (req_tests scope) [] scope.clause.reqs
+    ++ walked (statement_tests scope) [] scope.clause.stmts
+    ++ left_tests scope
+    ++ unused_tests (scope.clause ∷ []) scope.clause.params
+
+-- a clause of a contract behind others
+abbrev pub clause_tests : Contract → (before : List ClauseTree) → ClauseTree → List Test
+clause_tests contract before clause =
+    declared 3 clause.name (list_any (λ other. is_name clause.name.name other.name) before)
+    ++ inside_tests (record { contract = contract; clause = clause })
+
+-- a contract behind others
+abbrev pub contract_tests : (before : List Contract) → Contract → List Test
+contract_tests before contract =
+    declared 1 contract.name (list_any (λ other. is_name contract.name.name other.name) before)
+    ++ param_tests None contract.params
+    ++ declared 2 contract.value (is_parameter contract.value.name contract.params)
+    ++ walked (clause_tests contract) [] contract.clauses
+    ++ unused_tests contract.clauses contract.params
+
+-- all tests of a source, in their order
+abbrev pub tests_of : Source → List Test
+tests_of source = walked contract_tests [] source.contracts
+
+-- the same as a table: the type fault of a source is what its first line that holds tells
+abbrev pub lines_of : Source → List (Line Told)
+lines_of source = lines (tests_of source)
+
+-- no type fault stands in the source
+abbrev pub HasNoFault : Source → Type 0
+HasNoFault source = first_of (tests_of source) ≡ None

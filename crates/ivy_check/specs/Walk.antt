@@ -1,0 +1,36 @@
+-- What a function of the walk answers: the first test that holds, or where none does what it found.
+use Rattle.std.specs.Prelude.{ℕ, Option, Some, None, Result, Ok, Err}
+use Rattle.ivy_check.specs.declared.fault.Fault.{Fault}
+use Rattle.ivy_check.specs.declared.fault.Kind.{Kind}
+use Rattle.ivy_check.specs.declared.fault.Kind.TheVariants as kind
+use Rattle.ivy_check.specs.declared.scope.Within.{Within}
+use Rattle.ivy_check.specs.Tests.{Told}
+use Rattle.ivy_check.specs.Scope.{Scope}
+
+-- where the code says that an expression stands
+abbrev pub scope_of : Within → Scope
+scope_of within = record { contract = within.contract.now; clause = within.clause.now }
+
+abbrev pub kind_number : Kind → ℕ
+kind_number kind.ContractTwice = 1
+kind_number kind.NameTwice = 2
+kind_number kind.ClauseTwice = 3
+kind_number kind.Reserved = 4
+kind_number kind.UnknownType = 5
+kind_number kind.UnknownName = 6
+kind_number kind.UnknownFunction = 7
+kind_number kind.ArgumentCount = 8
+kind_number kind.WrongArgument = 9
+kind_number kind.WrongOperand = 10
+kind_number kind.NotBoolean = 11
+kind_number kind.NotProgram = 12
+kind_number kind.NoValue = 13
+kind_number kind.ValueUsed = 14
+kind_number kind.RequiredUnlocked = 15
+kind_number kind.DisposedTwice = 16
+kind_number kind.ValueLeft = 17
+kind_number kind.Unused = 18
+
+abbrev pub told : {X : Type 0} → Result X Fault → Option Told
+told (Ok x) = None
+told (Err fault) = Some (fault.at, kind_number fault.kind)

@@ -1,0 +1,21 @@
+//! The typing rules of the contract language Ivy: the first type fault of a text's syntax tree, or that there is none.
+#![tactic(auto)]
+
+mod contract;
+mod declare;
+mod expression;
+mod fault;
+mod functions;
+mod laws;
+mod operators;
+mod own;
+mod scope;
+mod statement;
+mod types;
+mod uses;
+mod verdict;
+
+pub use fault::TypeFault;
+pub use laws::type_faults;
+pub use types::IvyType;
+pub use verdict::{Checked, check};

@@ -1,0 +1,64 @@
+ghost use Rattle.std.specs.Prelude.{◌≡◌, ◌≢◌, ◌↔◌, ℕ, Some, None, Err, IfOk};
+ghost use Rattle.wire.specs.Tables.{First};
+ghost use Rattle.ivy_check.specs.TypeFault.{lines_of};
+ghost use Rattle.ivy_check.specs.declared.fault.TypeFault.TheVariants.{At, NoMemory};
+
+use crate::contract::contracts;
+use crate::fault::TypeFault;
+use ivy_syntax::Source;
+use std::marker::Model;
+
+/// A source in which no type fault stands.
+#[derive(Debug, Drop)]
+pub struct Checked {
+    source: Source,
+}
+
+impl Model for Checked {
+    ghost use Rattle.ivy_syntax.specs.declared.tree.Source.{Source};
+    ghost use Rattle.ivy_syntax.specs.contracts.tree.Form as form;
+    ghost use Rattle.std.specs.Coded.{codes};
+
+    ghost Value = { Source };
+
+    ghost coded = { Prim.hlevel (codes, form.the_row.coded) };
+
+    ghost use Rattle.ivy_check.specs.TypeFault.{HasNoFault};
+
+    ghost view = { λ checked. checked.source };
+
+    ghost invariant = { λ checked. HasNoFault checked.source };
+}
+
+impl Checked {
+    /// The source.
+    pub fn source(&self) -> &Source
+        ensures source { result.now ≡ self.now }
+        // No type fault stands in it.
+        ensures none { First (lines_of self.now) None }
+    {
+        &self.source
+    }
+}
+
+/// The source as it is, if no type fault stands in it. A source that is refused is dropped. Nothing is allocated, so
+/// that memory is never wanted.
+///
+/// Its time is linear in the text of the source, up to the limits of a text: each parameter is sought once in its
+/// contract or its clause.
+pub fn check(source: Source) -> Result<Checked, TypeFault>
+    // What is checked is the source, and no type fault stands in it.
+    ensures ok { IfOk result (λ checked. (checked ≡ source) × First (lines_of source) None) }
+    // A refusal is the first type fault.
+    ensures fault { (at kind : ℕ) → (result ≡ Err (At at kind)) ↔ First (lines_of source) (Some (at, kind)) }
+    // There is no other refusal.
+    ensures only { result ≢ Err NoMemory }
+{
+    match contracts(source.contracts.as_slice()) {
+        Ok(()) => Ok(Checked { source }),
+        Err(fault) => Err(TypeFault::At {
+            at: fault.at,
+            kind: fault.kind.number(),
+        }),
+    }
+}
