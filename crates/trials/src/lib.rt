@@ -10,6 +10,8 @@ mod data_model_calls;
 #[cfg(test)]
 mod entry_ids_calls;
 #[cfg(test)]
+mod filters;
+#[cfg(test)]
 mod keyed_calls;
 #[cfg(test)]
 mod ledger_core_calls;
