@@ -91,28 +91,31 @@ one_less : (d : ℕ) → suc d - 1 ≡ d
 one_less d = omega arith
 
 -- a step, by the tests of its token
-level : Bool → Bool → Bool → Bool → ℕ → (ℕ → Option ℕ) → Option ℕ
+unfoldable pub level : Bool → Bool → Bool → Bool → ℕ → (ℕ → Option ℕ) → Option ℕ
 level section shut up comma d rest =
     cond section None (cond shut (rest (suc d)) (cond up (cond (d == 0) (Some 0) (rest (d - 1)))
     (cond (comma && d == 0) (option_map suc (rest 0)) (rest d))))
 
-stack_of : Bool → Bool → Bool → Bool → List ℕ → List ℕ
-stack_of section shut up comma stack =
-    cond section [] (cond shut (without_first stack) (cond up (0 ∷ stack) (cond comma (first_more stack) stack)))
+unfoldable pub stack_of : Bool → Bool → Bool → Bool → List ℕ → List ℕ → List ℕ
+stack_of section shut up comma stack more =
+    cond section [] (cond shut (without_first stack) (cond up (0 ∷ stack) (cond comma more stack)))
 
-level_step : (section shut up comma : Bool) (stack : List ℕ) (rest : ℕ → Option ℕ) → short_get stack
+-- the second stack is the first with one comma more
+pub level_step : (section shut up comma : Bool) (stack more : List ℕ) (rest : ℕ → Option ℕ)
+    → slice_get more 0 ≡ option_map suc (slice_get stack 0)
+    → ((d : ℕ) → slice_get more (suc d) ≡ slice_get stack (suc d))
     → ((d : ℕ) → slice_get stack d ≡ rest d)
-    → (d : ℕ) → slice_get (stack_of section shut up comma stack) d ≡ level section shut up comma d rest
+    → (d : ℕ) → slice_get (stack_of section shut up comma stack more) d ≡ level section shut up comma d rest
 unfolding level stack_of
-level_step true shut up comma stack rest short h d = refl
-level_step false true up comma stack rest short h d = tail_get stack d ∙ h (suc d)
-level_step false false true comma stack rest short h zero = refl
-level_step false false true comma stack rest short h (suc d) =
+level_step true shut up comma stack more rest first others h d = refl
+level_step false true up comma stack more rest first others h d = tail_get stack d ∙ h (suc d)
+level_step false false true comma stack more rest first others h zero = refl
+level_step false false true comma stack more rest first others h (suc d) =
     h d ∙ ap rest (sym (one_less d)) ∙ sym (cond-false (suc d == 0) (Some 0) (rest (suc d - 1)) (suc_not d))
-level_step false false false true stack rest short h zero = first_get stack short ∙ ap (option_map suc) (h 0)
-level_step false false false true stack rest short h (suc d) =
-    other_get stack d ∙ h (suc d) ∙ sym (cond-false (suc d == 0) (option_map suc (rest 0)) (rest (suc d)) (suc_not d))
-level_step false false false false stack rest short h d = h d
+level_step false false false true stack more rest first others h zero = first ∙ ap (option_map suc) (h 0)
+level_step false false false true stack more rest first others h (suc d) =
+    others d ∙ h (suc d) ∙ sym (cond-false (suc d == 0) (option_map suc (rest 0)) (rest (suc d)) (suc_not d))
+level_step false false false false stack more rest first others h d = h d
 
 -- no bracket has more commas than there are tokens
 IsShort : ℕ → Option ℕ → Type 0
@@ -162,8 +165,8 @@ stacked_next : (stack : List ℕ) (t : Kind) (back : List Kind) → Stacked stac
     → Stacked (nested stack t) (t ∷ back)
 unfolding Stacked level stack_of
 stacked_next stack t back h small =
-    level_step (begins_section t) (closes t) (opens t) (is_comma t) stack (λ d. commas d back)
-    (stack_short stack back h small) h
+    level_step (begins_section t) (closes t) (opens t) (is_comma t) stack (first_more stack) (λ d. commas d back)
+    (first_get stack (stack_short stack back h small)) (other_get stack) h
 
 -- ---- a token more
 
@@ -186,12 +189,12 @@ counted_next old new t back c n small = record {
 
 -- ---- the limits
 
-first_get_is : (stack : List ℕ) → first_of stack ≡ slice_get stack 0
+pub first_get_is : (stack : List ℕ) → first_of stack ≡ slice_get stack 0
 first_get_is [] = refl
 first_get_is (n ∷ stack) = refl
 
 -- the numbers of the limits, by what they are told from
-abbrev told : ℕ → ℕ → ℕ → ℕ → ℕ → ℕ → Option Kind → Option Kind → Option Kind → Option ℕ → Kind → Option ℕ
+abbrev pub told : ℕ → ℕ → ℕ → ℕ → ℕ → ℕ → Option Kind → Option Kind → Option Kind → Option ℕ → Kind → Option ℕ
 told contracts clauses statements assets operators params section part last top t =
     if is_contract t && nat_le 16 contracts then Some 1
     else (if is_name t && holds leads_param last && holds is_contract section && nat_le 32 params then Some 2

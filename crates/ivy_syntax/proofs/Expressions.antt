@@ -23,7 +23,8 @@ use Rattle.ivy_syntax.specs.Token as token
 use Rattle.ivy_syntax.specs.Tokens.{Placed}
 use Rattle.ivy_syntax.specs.Grammar.{Or, Unary, single, enclosed, before, Reads, alone, joined}
 use Rattle.ivy_syntax.specs.Grammar.{one_token, a_name, IsSingle, a_number, a_true, a_false, a_hex, a_text}
-use Rattle.ivy_syntax.specs.Descent.{rank, Start, Literal, Named, Paren, Bracket, Prefix, NoStart}
+use Rattle.ivy_syntax.specs.Descent.{Start, Literal, Named, Paren, Bracket, Prefix, NoStart}
+use Rattle.ivy_syntax.specs.Grammar.{rank}
 use Rattle.ivy_syntax.specs.Descent.{start, close_paren, close_bracket, nested_by, flat, unary_at, expr_at}
 use Rattle.ivy_syntax.specs.Descent.{too_deep_name}
 use Rattle.ivy_syntax.proofs.Pieces.{Fine, sign_is, a_sign, not_unary}

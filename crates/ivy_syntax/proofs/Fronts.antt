@@ -1,5 +1,6 @@
 -- What is found at the front of a text is spelled so.
-use Rattle.std.proofs.Common.{◌≡◌, ◌≤◌, ◌<◌, ◌+◌, ◌-◌, ◌*◌, ◌/◌, ◌^◌, ◌&&◌, ◌==◌, ℕ, zero, suc, Bool, true, false}
+use Rattle.std.proofs.Common.{◌≡◌, ◌≤◌, ◌<◌, ◌+◌, ◌-◌, ◌*◌, ◌/◌, ◌%◌, ◌^◌, ◌&&◌, ◌==◌, ℕ, zero, suc, Bool, true}
+use Rattle.std.proofs.Common.{false}
 use Rattle.std.proofs.Common.{List, [], ◌∷◌, ◌++◌, inl, inr, length, take, drop, slice_index, cond, refl, ap, sym, ◌∙◌}
 use Rattle.std.proofs.Common.{subst}
 use Rattle.std.proofs.Common.{arith, Option, Some, None, bytes_eq, leb, get_or}
@@ -10,7 +11,7 @@ use Rattle.std.proofs.lemmas.Str.Parse.{IsNumeralModel, numerals_by_value}
 use Rattle.std.proofs.lemmas.Fmt.{decimal-digits_value}
 use Rattle.std.specs.Prelude.{codes, decimal, option_map}
 use Rattle.std.specs.List.{list_all, prefix_len}
-use Rattle.std.specs.Char.{is_ascii_digit, is_ascii_hexdigit}
+use Rattle.std.specs.Char.{is_ascii_digit, is_ascii_hexdigit, digit_value}
 use Rattle.std.specs.Str.Parse.{digits_value}
 use Rattle.std.proofs.lemmas.Bool.{cases_Bool, cond-true, cond-false, and_parts, and_from, eqb-true, leb-true}
 use Rattle.std.proofs.lemmas.Bool.Decides.{nat_tests}
@@ -213,6 +214,14 @@ number_sound b rest e =
 
 -- ---- hex
 
+pub hex_below : (d : ℕ) → is_ascii_hexdigit d ≡ true → digit_value d < 16
+hex_below d h = grind (arith, nat_tests)
+
+-- two digits stand for a byte
+pub pair_fits : (high low : ℕ) → is_ascii_hexdigit high ≡ true → is_ascii_hexdigit low ≡ true
+    → (16 * digit_value high + digit_value low) % 256 ≡ 16 * digit_value high + digit_value low
+pair_fits high low first second = omega (arith, hex_below high first, hex_below low second)
+
 stand_for : (k : ℕ) (digits : List ℕ) → length digits ≡ 2 * k → list_all is_ascii_hexdigit digits ≡ true
     → StandFor digits (value_of digits)
 stand_for k [] e h = tt
@@ -222,7 +231,7 @@ stand_for (suc k) (high ∷ low ∷ digits) e h =
     let first = and_parts _ _ h in
     let second = and_parts _ _ first.1 in
     let short : length digits ≡ 2 * k = omega arith in
-    (first.0, second.0, refl, stand_for k digits short second.1)
+    (first.0, second.0, pair_fits high low first.0 second.0, stand_for k digits short second.1)
 
 hex_sound : (rest : List ℕ) → SoundCut (48 ∷ 120 ∷ rest) (hex_at (48 ∷ 120 ∷ rest))
 unfolding hex_at SoundCut

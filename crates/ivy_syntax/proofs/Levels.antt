@@ -13,7 +13,8 @@ use Rattle.ivy_syntax.specs.Tokens.{Placed}
 use Rattle.ivy_syntax.specs.Grammar.{Level, Or, And, Comparison, Shift, Sum, Term, Unary, below, between, single}
 use Rattle.ivy_syntax.specs.Grammar.{Reads, alone, joined, compared, prefixed, one_token, empty_call, call, members}
 use Rattle.ivy_syntax.specs.Grammar.{parentheses, a_number}
-use Rattle.ivy_syntax.specs.Descent.{Reader, rank, strength, joins, join, chain_by, compare_by, term_by}
+use Rattle.ivy_syntax.specs.Descent.{Reader, strength, joins, join, chain_by, compare_by, term_by}
+use Rattle.ivy_syntax.specs.Grammar.{rank}
 use Rattle.ivy_syntax.specs.Descent.{sum_by, shift_by, comparison_by, and_by, expr_by, level_by}
 use Rattle.ivy_syntax.proofs.Pieces.{Fine, zero_fine, next_rank, binary_is, joins_is, joining_is, is_joining}
 use Rattle.ivy_syntax.proofs.Growth.{reads_grow}

@@ -34,7 +34,7 @@ use Rattle.ivy_syntax.specs.Token.{Token, letters}
 use Rattle.ivy_syntax.specs.Token as token
 use Rattle.ivy_syntax.specs.Tokens.{Placed}
 use Rattle.ivy_syntax.specs.Grammar.{Or, Reads}
-use Rattle.ivy_syntax.specs.Descent.{Reader, strength, rank, is_sign, is_word, the_sign, the_word, named, listed}
+use Rattle.ivy_syntax.specs.Descent.{Reader, strength, is_sign, is_word, the_sign, the_word, named, listed}
 use Rattle.ivy_syntax.specs.Descent.{group_of}
 use Rattle.ivy_syntax.specs.Descent.{group, params, req_of, amount_by, req_by, requires_by, begins_stmt, verify_by}
 use Rattle.ivy_syntax.specs.Descent.{lock_by}

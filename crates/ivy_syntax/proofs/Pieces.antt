@@ -20,7 +20,8 @@ use Rattle.ivy_syntax.specs.Tokens.{Placed}
 use Rattle.ivy_syntax.specs.Grammar.{Level, Or, And, Comparison, Shift, Sum, Term, Unary, binary, below, word}
 use Rattle.ivy_syntax.specs.Descent.{is_symbol, is_keyword, sign_in, word_in, is_sign, is_word, the_sign, the_word}
 use Rattle.ivy_syntax.specs.Descent.{named}
-use Rattle.ivy_syntax.specs.Descent.{name_in, rank, operator_rank, strength, joins, operation}
+use Rattle.ivy_syntax.specs.Descent.{name_in, operator_rank, strength, joins, operation}
+use Rattle.ivy_syntax.specs.Grammar.{rank}
 
 -- a token that can be written
 abbrev pub Fine : Placed → Type 0

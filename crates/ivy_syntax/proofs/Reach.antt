@@ -30,7 +30,7 @@ use Rattle.ivy_syntax.specs.Cutting.{symbol_of}
 use Rattle.ivy_syntax.specs.Cutting.{operator_of, single_cut, sign_cut, sign_at, token_at}
 use Rattle.ivy_syntax.proofs.Runs.{StopsAt, prefix_no, run_over, run_ends}
 use Rattle.ivy_syntax.proofs.Fronts.{name_goes_on, digit_goes_on, keyword_is, keyword_found, IsWordText, letters_are}
-use Rattle.ivy_syntax.proofs.Fronts.{numerals, quoted_value, at_index}
+use Rattle.ivy_syntax.proofs.Fronts.{numerals, quoted_value, at_index, pair_fits}
 
 abbrev pub BlankFollows : List ℕ → Type 0
 BlankFollows [] = ⊥
@@ -194,9 +194,10 @@ stands_value (d ∷ []) [] h = absurd h
 stands_value (d ∷ []) (b ∷ value) h = absurd h
 stands_value (high ∷ low ∷ digits) [] h = absurd h
 stands_value (high ∷ low ∷ digits) (b ∷ value) h =
-    ap (λ c. c ∷ value_of digits) (sym h.2) ∙ ap (λ bs. b ∷ bs) (stands_value digits value h.3)
+    ap (λ c. c ∷ value_of digits) (pair_fits high low h.0 h.1 ∙ sym h.2)
+    ∙ ap (λ bs. b ∷ bs) (stands_value digits value h.3)
 
-all_hex : (digits value : List ℕ) → StandFor digits value → list_all is_ascii_hexdigit digits ≡ true
+pub all_hex : (digits value : List ℕ) → StandFor digits value → list_all is_ascii_hexdigit digits ≡ true
 all_hex [] [] h = refl
 all_hex [] (b ∷ value) h = absurd h
 all_hex (d ∷ []) [] h = absurd h

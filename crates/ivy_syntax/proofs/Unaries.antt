@@ -26,7 +26,8 @@ use Rattle.ivy_syntax.specs.Token as token
 use Rattle.ivy_syntax.specs.Tokens.{Placed}
 use Rattle.ivy_syntax.specs.Grammar.{Level, Or, Unary, single, enclosed, before, Reads, alone, joined, compared}
 use Rattle.ivy_syntax.specs.Grammar.{one_token, prefixed, empty_call, call, members, parentheses}
-use Rattle.ivy_syntax.specs.Descent.{Reader, rank, strength, the_sign, listed, Start, Literal, Named, Paren}
+use Rattle.ivy_syntax.specs.Descent.{Reader, strength, the_sign, listed, Start, Literal, Named, Paren}
+use Rattle.ivy_syntax.specs.Grammar.{rank}
 use Rattle.ivy_syntax.specs.Descent.{Bracket, Prefix, NoStart, start, close_paren, close_bracket, args_by, name_by}
 use Rattle.ivy_syntax.specs.Descent.{bracket_by, paren_by, nested_by, expr_by}
 use Rattle.ivy_syntax.proofs.Pieces.{Fine, sign_is, the_sign_is, a_sign}

@@ -23,6 +23,7 @@ use Rattle.ivy_syntax.specs.Tokens.{EndsBefore, Longest, is_blank, Placed, AreTo
 use Rattle.ivy_syntax.specs.Tokens.{digits_of, spelling, written, CanBeWritten, IsReadBack}
 use Rattle.ivy_syntax.specs.Lexeme.{token_of}
 use Rattle.ivy_syntax.specs.Cutting.{comment_len}
+use Rattle.ivy_syntax.proofs.Fronts.{hex_below}
 use Rattle.ivy_syntax.proofs.Reach.{Reaches, reach, decimal_all}
 use Rattle.ivy_syntax.proofs.Comments.{longest_at}
 use Rattle.ivy_syntax.proofs.Readings.{no_comment}
@@ -35,18 +36,15 @@ glyph_is_hex n h = grind (arith, nat_tests)
 glyph_value : (n : ℕ) → n < 16 → digit_value (digit_glyph false n) ≡ n
 glyph_value n h = grind (arith, nat_tests)
 
-hex_value : (d : ℕ) → is_ascii_hexdigit d ≡ true → digit_value d < 16
-hex_value d h = grind (arith, nat_tests)
-
-digits_stand : (digits value : List ℕ) → StandFor digits value → StandFor (digits_of value) value
+pub digits_stand : (digits value : List ℕ) → StandFor digits value → StandFor (digits_of value) value
 digits_stand [] [] h = tt
 digits_stand [] (b ∷ value) h = absurd h
 digits_stand (d ∷ []) [] h = absurd h
 digits_stand (d ∷ []) (b ∷ value) h = absurd h
 digits_stand (high ∷ low ∷ digits) [] h = absurd h
 digits_stand (high ∷ low ∷ digits) (b ∷ value) h =
-    let top : digit_value high < 16 = hex_value high h.0 in
-    let bottom : digit_value low < 16 = hex_value low h.1 in
+    let top : digit_value high < 16 = hex_below high h.0 in
+    let bottom : digit_value low < 16 = hex_below low h.1 in
     let is : b ≡ 16 * digit_value high + digit_value low = h.2 in
     let first : b / 16 < 16 = omega arith in
     let second : b % 16 < 16 = omega arith in (

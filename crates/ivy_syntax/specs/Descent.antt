@@ -31,7 +31,7 @@ use Rattle.ivy_syntax.specs.Token.{Token, Operation, Name, Number, Hex, Quoted}
 use Rattle.ivy_syntax.specs.Token as token
 use Rattle.ivy_syntax.specs.Tokens.{Placed}
 use Rattle.ivy_syntax.specs.Grammar.{Level, Or, And, Comparison, Shift, Sum, Term, Unary, between, before, single}
-use Rattle.ivy_syntax.specs.Grammar.{enclosed, word, unary}
+use Rattle.ivy_syntax.specs.Grammar.{enclosed, word, unary, rank}
 
 -- what reads a part at the front of the tokens
 abbrev pub Reader : Type 0 → Type 0
@@ -97,16 +97,6 @@ abbrev pub listed : {V : Type 0} → Reader V → Reader (List V)
 listed read = separated (is_sign symbol.Comma) read
 
 -- ---- operators between operands
-
--- How strongly a level binds, from 1 on.
-abbrev pub rank : Level → ℕ
-rank Or = 1
-rank And = 2
-rank Comparison = 3
-rank Shift = 4
-rank Sum = 5
-rank Term = 6
-rank Unary = 7
 
 abbrev pub operator_rank : Operator → ℕ
 operator_rank operator.Or = 1

@@ -6,7 +6,7 @@
 --     clause = "clause" name "(" [ params ] ")" [ "requires" req { "," req } ] "{" stmt { stmt } "}"
 --     req = name ":" expr "of" expr
 --     stmt = "verify" expr | "lock" name "with" expr | "unlock" name
-use Rattle.std.specs.Prelude.{◌≡◌, ℕ, suc, Bool, true, false, List, [], ◌∷◌, ◌++◌, Option, Some, None}
+use Rattle.std.specs.Prelude.{◌≡◌, ℕ, suc, true, false, List, [], ◌∷◌, ◌++◌, Option, Some, None}
 use Rattle.ivy_syntax.specs.declared.tree.Expr.{Expr}
 use Rattle.ivy_syntax.specs.declared.tree.Form.{Form}
 use Rattle.ivy_syntax.specs.declared.tree.Form.TheVariants as forms
@@ -48,6 +48,16 @@ below Shift = Sum
 below Sum = Term
 below Term = Unary
 below Unary = Unary
+
+-- How strongly a level binds, from 1 on.
+abbrev pub rank : Level → ℕ
+rank Or = 1
+rank And = 2
+rank Comparison = 3
+rank Shift = 4
+rank Sum = 5
+rank Term = 6
+rank Unary = 7
 
 -- the operator of the tree that stands between operands of this level, and the level
 abbrev pub binary : Operator → Option (Level × Op)

@@ -1,5 +1,5 @@
 -- A cut of a text, as a token with its place.
-use Rattle.std.specs.Prelude.{◌≤◌, ◌+◌, ◌-◌, ◌*◌, ℕ, List, [], ◌∷◌, length, take, drop, slice_range}
+use Rattle.std.specs.Prelude.{◌≤◌, ◌+◌, ◌-◌, ◌*◌, ◌%◌, ℕ, List, [], ◌∷◌, length, take, drop, slice_range}
 use Rattle.std.specs.Char.{digit_value}
 use Rattle.ivy_syntax.specs.declared.lexeme.Kind.{Kind}
 use Rattle.ivy_syntax.specs.declared.lexeme.Kind.TheVariants as kind
@@ -11,7 +11,7 @@ use Rattle.ivy_syntax.specs.Tokens.{Placed}
 abbrev pub value_of : List ℕ → List ℕ
 value_of [] = []
 value_of (high ∷ []) = []
-value_of (high ∷ low ∷ digits) = (16 * digit_value high + digit_value low) ∷ value_of digits
+value_of (high ∷ low ∷ digits) = (16 * digit_value high + digit_value low) % 256 ∷ value_of digits
 
 -- what these bytes are, if they are a token of this kind
 abbrev pub token_of : Kind → List ℕ → Token

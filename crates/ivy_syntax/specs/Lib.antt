@@ -6,3 +6,12 @@ pub mod Limits
 pub mod Counting
 pub mod Grammar
 pub mod Descent
+pub mod Agreement
+pub mod Texts
+pub mod Shown
+pub mod Unplaced
+pub mod Printing
+pub mod Sizes
+pub mod TreeLimits
+pub mod Spaced
+pub mod Answering

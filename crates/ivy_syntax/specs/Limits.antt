@@ -164,7 +164,7 @@ passes_members back =
 abbrev pub passes_operators : List Kind → Kind → Bool
 passes_operators back t = is_operator t && nat_le 256 (count_since leads_expression is_operator back)
 
--- the smallest number of a limit that the token passes
+-- the smallest number of these limits that the token passes
 abbrev pub passes : List Kind → Kind → Option ℕ
 passes back t =
     if passes_contracts back t then Some 1

@@ -362,8 +362,8 @@ fn begins_block(text: &[u8]) -> bool
     byte(text, 0) == b'/' && byte(text, 1) == b'*'
 }
 
-// `End` or `Bad` at a place.
-fn point(kind: Kind, at: usize) -> Lexeme
+/// `End` or `Bad` at a place.
+pub(crate) fn point(kind: Kind, at: usize) -> Lexeme
     ensures { result ≡ cutting.point kind at }
 {
     Lexeme {
