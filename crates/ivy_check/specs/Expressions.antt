@@ -25,15 +25,15 @@ use Rattle.ivy_check.specs.Scope.{Scope, is_value, is_unknown, name_type}
 
 -- what is no number and no list, and has this type
 abbrev pub plainly : Option IvyType → Own
-plainly type = record { is_number = false; members = None; type_in = type }
+plainly type = record { is_literal = false; members = None; type_in = type }
 
 -- a number is an Integer by itself
 abbrev pub number_own : Own
-number_own = record { is_number = true; members = None; type_in = Some Integer }
+number_own = record { is_literal = true; members = None; type_in = Some Integer }
 
 -- a list of so many members has no type
 abbrev pub list_own : ℕ → Own
-list_own members = record { is_number = false; members = Some members; type_in = None }
+list_own members = record { is_literal = false; members = Some members; type_in = None }
 
 unfoldable pub is_list : Own → Bool
 is_list own = is_some own.members
@@ -46,11 +46,11 @@ count own = unwrap_or own.members 0
 -- too.
 abbrev pub beside : (other own : Own) → Option IvyType
 beside other own =
-    if own.is_number && not other.is_number && has_numeric other.type_in then other.type_in else own.type_in
+    if own.is_literal && not other.is_literal && has_numeric other.type_in then other.type_in else own.type_in
 
 -- the type that it has in a place that asks for this one: a number takes it, where it is numeric
 abbrev pub asked : IvyType → Own → Option IvyType
-asked type own = if own.is_number && is_numeric type then Some type else own.type_in
+asked type own = if own.is_literal && is_numeric type then Some type else own.type_in
 
 -- two of one type
 abbrev pub are_alike : (left right : Own) → Bool
@@ -72,7 +72,7 @@ takes_operand _ own = has_numeric own.type_in
 
 abbrev pub unary_own : Op → Own → Own
 unary_own op.Not own = plainly (Some Boolean)
-unary_own _ own = record { is_number = own.is_number; members = None; type_in = own.type_in }
+unary_own _ own = record { is_literal = own.is_literal; members = None; type_in = own.type_in }
 
 abbrev pub takes_operands : Op → (left right : Own) → Bool
 takes_operands op.Or left right = are_booleans left right
@@ -124,7 +124,9 @@ given_one function.Abs own = own.type_in
 given_one function.Size own = Some Integer
 given_one function.BytesOf own = Some String
 given_one function.Sha256 own = Some Hash
-given_one _ own = Some Boolean
+given_one function.Before own = Some Boolean
+given_one function.After own = Some Boolean
+given_one _ own = None
 
 -- The same for two: checks of signatures give a Boolean.
 abbrev pub given_two : Function → (first second : Own) → Option IvyType
@@ -132,7 +134,9 @@ given_two function.Min first second = beside second first
 given_two function.Max first second = beside second first
 given_two function.Concat first second = Some String
 given_two function.ConcatPush first second = Some String
-given_two _ first second = Some Boolean
+given_two function.CheckTxSig first second = Some Boolean
+given_two function.CheckTxMultiSig first second = Some Boolean
+given_two _ first second = None
 
 -- ---- expressions where they stand
 
@@ -251,7 +255,3 @@ placed e = record { from = e.from; at = e.at; own = e.form.own; tests = e.form.t
 -- what is said of an expression that stands in this scope
 unfoldable pub typed : Scope → Expr → Typed
 typed scope = fold-Expr Said Typed (said scope) placed
-
--- the type of an expression by itself
-abbrev pub type_of : Scope → Expr → Option IvyType
-type_of scope e = (typed scope e).own.type_in

@@ -1,4 +1,4 @@
--- Tests in the order of a walk over a text, of which the first that holds is told, by its place and its kind.
+-- Tests in their order, of which the first that holds is told, by its place and its kind.
 use Rattle.std.specs.Prelude.{ℕ, Bool, List, [], ◌∷◌, ◌++◌, Option, Some, None, IsTrue, if◌then◌else◌}
 use Rattle.wire.specs.Tables.{Line, Tells}
 

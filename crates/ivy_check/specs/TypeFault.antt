@@ -1,4 +1,4 @@
--- The type faults of a source: the first test that holds, in the order of the text.
+-- The type faults of a source: the first test that holds, in the order of the tests.
 use Rattle.std.specs.Prelude.{◌≡◌, ◌||◌, List, [], ◌∷◌, ◌++◌, Some, None}
 use Rattle.std.specs.List.{list_any}
 use Rattle.wire.specs.Tables.{Line}
@@ -6,6 +6,7 @@ use Rattle.ivy_syntax.specs.declared.tree.Req.{Req}
 use Rattle.ivy_syntax.specs.declared.tree.ClauseTree.{ClauseTree}
 use Rattle.ivy_syntax.specs.declared.tree.Contract.{Contract}
 use Rattle.ivy_syntax.specs.declared.tree.Source.{Source}
+use Rattle.ivy_syntax.specs.Texts.{IsOfSomeText}
 use Rattle.ivy_check.specs.Tests.{Test, Told, lines, first_of, walked}
 use Rattle.ivy_check.specs.Scope.{Scope, is_name, is_parameter, is_required}
 use Rattle.ivy_check.specs.Statements.{statement_tests, left_tests, sides_tests}
@@ -55,3 +56,8 @@ lines_of source = lines (tests_of source)
 -- no type fault stands in the source
 abbrev pub HasNoFault : Source → Type 0
 HasNoFault source = first_of (tests_of source) ≡ None
+
+-- Some text is this source, and no type fault stands in it.
+pub record IsChecked (source : Source) : Type 0 where
+  pub of_text : IsOfSomeText source
+  pub no_fault : HasNoFault source

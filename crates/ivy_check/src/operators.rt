@@ -27,7 +27,7 @@ impl Own {
         ensures { result ≡ plainly type_in }
     {
         Own {
-            is_number: false,
+            is_literal: false,
             members: None,
             type_in,
         }
@@ -38,7 +38,7 @@ impl Own {
         ensures { result ≡ number_own }
     {
         Own {
-            is_number: true,
+            is_literal: true,
             members: None,
             type_in: Some(IvyType::Integer),
         }
@@ -49,7 +49,7 @@ impl Own {
         ensures { result ≡ list_own members }
     {
         Own {
-            is_number: false,
+            is_literal: false,
             members: Some(members),
             type_in: None,
         }
@@ -75,7 +75,7 @@ impl Own {
     pub(crate) fn beside(self, other: Own) -> Option<IvyType>
         ensures { result ≡ beside other self }
     {
-        if self.is_number && !other.is_number && has_numeric(other.type_in) {
+        if self.is_literal && !other.is_literal && has_numeric(other.type_in) {
             other.type_in
         } else {
             self.type_in
@@ -86,7 +86,7 @@ impl Own {
     pub(crate) fn asked(self, wanted: IvyType) -> Option<IvyType>
         ensures { result ≡ asked wanted self }
     {
-        if self.is_number && wanted.is_numeric() {
+        if self.is_literal && wanted.is_numeric() {
             Some(wanted)
         } else {
             self.type_in
@@ -215,7 +215,8 @@ pub(crate) fn given_one(function: Function, own: Own) -> Option<IvyType>
         Function::Size => Some(IvyType::Integer),
         Function::BytesOf => Some(IvyType::String),
         Function::Sha256 => Some(IvyType::Hash),
-        _ => Some(IvyType::Boolean),
+        Function::Before | Function::After => Some(IvyType::Boolean),
+        _ => None,
     }
 }
 
@@ -226,6 +227,7 @@ pub(crate) fn given_two(function: Function, first: Own, second: Own) -> Option<I
     match function {
         Function::Min | Function::Max => first.beside(second),
         Function::Concat | Function::ConcatPush => Some(IvyType::String),
-        _ => Some(IvyType::Boolean),
+        Function::CheckTxSig | Function::CheckTxMultiSig => Some(IvyType::Boolean),
+        _ => None,
     }
 }

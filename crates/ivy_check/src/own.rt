@@ -7,7 +7,7 @@ use crate::types::IvyType;
 #[derive(Clone, Copy)]
 pub(crate) struct Own {
     /// A number, also under unary minuses: its place may give it another type.
-    pub(crate) is_number: bool,
+    pub(crate) is_literal: bool,
     /// How many members it has as a list, and nothing where it is no list.
     pub(crate) members: Option<usize>,
     /// Its type. A list has none.

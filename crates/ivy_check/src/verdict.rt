@@ -1,5 +1,6 @@
 ghost use Rattle.std.specs.Prelude.{◌≡◌, ◌≢◌, ◌↔◌, ℕ, Some, None, Err, IfOk};
 ghost use Rattle.wire.specs.Tables.{First};
+ghost use Rattle.ivy_syntax.specs.Texts.{IsOfSomeText};
 ghost use Rattle.ivy_check.specs.TypeFault.{lines_of};
 ghost use Rattle.ivy_check.specs.declared.fault.TypeFault.TheVariants.{At, NoMemory};
 
@@ -8,7 +9,7 @@ use crate::fault::TypeFault;
 use ivy_syntax::Source;
 use std::marker::Model;
 
-/// A source in which no type fault stands.
+/// A source that some text is, in which no type fault stands.
 #[derive(Debug, Drop)]
 pub struct Checked {
     source: Source,
@@ -23,17 +24,19 @@ impl Model for Checked {
 
     ghost coded = { Prim.hlevel (codes, form.the_row.coded) };
 
-    ghost use Rattle.ivy_check.specs.TypeFault.{HasNoFault};
+    ghost use Rattle.ivy_check.specs.TypeFault.{IsChecked};
 
     ghost view = { λ checked. checked.source };
 
-    ghost invariant = { λ checked. HasNoFault checked.source };
+    ghost invariant = { λ checked. IsChecked checked.source };
 }
 
 impl Checked {
     /// The source.
     pub fn source(&self) -> &Source
         ensures source { result.now ≡ self.now }
+        // Some text is it.
+        ensures text { IsOfSomeText self.now }
         // No type fault stands in it.
         ensures none { First (lines_of self.now) None }
     {
@@ -43,10 +46,9 @@ impl Checked {
 
 /// The source as it is, if no type fault stands in it. A source that is refused is dropped. Nothing is allocated, so
 /// that memory is never wanted.
-///
-/// Its time is linear in the text of the source, up to the limits of a text: each parameter is sought once in its
-/// contract or its clause.
 pub fn check(source: Source) -> Result<Checked, TypeFault>
+    // Some text is the source.
+    requires text { IsOfSomeText source }
     // What is checked is the source, and no type fault stands in it.
     ensures ok { IfOk result (λ checked. (checked ≡ source) × First (lines_of source) None) }
     // A refusal is the first type fault.

@@ -2,6 +2,7 @@
 use Rattle.std.proofs.Common.{None, subst}
 use Rattle.wire.specs.Tables.{First}
 use Rattle.ivy_syntax.specs.declared.tree.Source.{Source}
+use Rattle.ivy_syntax.specs.Texts.{IsOfSomeText}
 use Rattle.ivy_check.specs.TypeFault.{tests_of, lines_of}
 use Rattle.ivy_check.proofs.TableLemmas.{answers}
 use Rattle.ivy_check.proofs.verdict.Checked.source.Goals as goal
@@ -9,4 +10,7 @@ use Rattle.ivy_check.proofs.verdict.Checked.source.Goals as goal
 pub returns-clause-none : goal.returns-clause-none
 returns-clause-none c =
     subst (λ (s : Source). First (lines_of s) None) c.self.view_is
-    (answers (tests_of c.self.inside.source) None c.self.invariant)
+    (answers (tests_of c.self.inside.source) None c.self.invariant.no_fault)
+
+pub returns-clause-text : goal.returns-clause-text
+returns-clause-text c = subst IsOfSomeText c.self.view_is c.self.invariant.of_text
