@@ -10,8 +10,6 @@ mod data_model_calls;
 #[cfg(test)]
 mod entry_ids_calls;
 #[cfg(test)]
-mod filters;
-#[cfg(test)]
 mod keyed_calls;
 #[cfg(test)]
 mod ledger_core_calls;
