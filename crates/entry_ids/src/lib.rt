@@ -17,3 +17,4 @@ pub use input::{Named, Names, nonce_id};
 pub use output::output_id;
 pub use signing::sig_hash;
 pub use tx::{TxIds, input_id, mux_id, result_id, tx_id, tx_ids};
+pub use wire::NoMemory;

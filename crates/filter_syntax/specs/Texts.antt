@@ -44,13 +44,13 @@ abbrev pub is_comparison : Placed → Bool
 is_comparison (Name name, at) = true
 is_comparison _ = false
 
--- The first token of a comparison past so many counts as one with which no token begins, and nothing stands behind it.
+-- The first token of a comparison past so many counts as bytes with which no token begins, and nothing stands behind.
 abbrev pub within : ℕ → List Placed → List Placed
 within most [] = []
 within zero (p ∷ ps) = cond (is_comparison p) ((Bad, p.1) ∷ []) (p ∷ within zero ps)
 within (suc most) (p ∷ ps) = p ∷ within (cond (is_comparison p) most (suc most)) ps
 
--- The text's tokens, and those of its first 256 comparisons.
+-- The text's tokens, cut at the first token of its 257th comparison, which is Bad there.
 pub record HasTokens (text : List ℕ) (tokens : List Placed) : Type 0 where
   pub placed : List Placed
   pub are : AreTokens 0 text placed

@@ -39,8 +39,8 @@ spelling (Param n) = 36 ∷ decimal n
 spelling End = []
 spelling Bad = []
 
--- A name is a word, a quoted text has no `'`, a number is at most 2^63 - 1, and a parameter has a number of 1 to 99.
--- The end and bytes with which no token begins are written with none.
+-- A name is a word but the four with a meaning of their own, a quoted text has bytes 20 to 7e but `'`, a number is at
+-- most 2^63 - 1, and a parameter has a number of 1 to 99. The end and bytes with which no token begins cannot be.
 abbrev pub CanBeWritten : Token → Type 0
 CanBeWritten (Name word) = IsName word
 CanBeWritten (Quoted text) = IsTrue (list_all is_quotable text)

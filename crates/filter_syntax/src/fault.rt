@@ -7,8 +7,9 @@ use wire::NoMemory;
 /// Why a text could not be read.
 #[derive(Clone, Copy, Debug, PartialEq, Eq)]
 pub enum FilterFault {
-    /// The text is none of the grammar: the place, in bytes from 0, of the first token with which none goes on behind
-    /// the tokens before it. The text's end is the last of its tokens.
+    /// The text is none of the grammar, or past its limits: the place, in bytes from 0, of the first token with which
+    /// no filter goes on behind the tokens before it. The text's end counts as a token, and so do bytes with which none
+    /// begins, and the attribute of the 257th comparison.
     Syntax { at: u64 },
     /// The text is one of the grammar: the place of the first name that is no attribute there.
     UnknownAttribute { at: u64 },

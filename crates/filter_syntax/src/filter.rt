@@ -100,9 +100,9 @@ fn limit(text: &[u8], lexemes: &mut Vec<Lexeme>, most: u64) -> Result<(), NoMemo
     ensures { OnOk result (map (seen text.now) lexemes.new.items
         ≡ within most (map (seen text.now) lexemes.old.items)) }
 {
-    if let Some(passing) = passing(text, lexemes, most) {
-        let from = lexemes[passing].from;
-        lexemes.truncate(passing);
+    if let Some(at) = passing(text, lexemes, most) {
+        let from = lexemes[at].from;
+        lexemes.truncate(at);
         lexemes.push(mark(Kind::Bad, from))?;
     }
     Ok(())

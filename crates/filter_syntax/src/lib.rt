@@ -17,3 +17,4 @@ pub use fault::FilterFault;
 pub use filter::parse_filter;
 pub use print::print_filter;
 pub use tree::{Cond, Filter, FilterValue, RowKind, Text};
+pub use wire::NoMemory;

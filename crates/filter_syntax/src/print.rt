@@ -12,9 +12,9 @@ use crate::{Cond, Filter, FilterValue, Text};
 use std::alloc::Global;
 use wire::{Bytes, NoMemory};
 
-/// The text of a filter: its tokens with one space between two, and parentheses round an operand exactly where the text
-/// without them does not read as the same filter. The empty filter is the empty text. What is read from a text is
-/// printed in ASCII; in a filter made by hand, bytes that are no UTF-8 are printed as U+FFFD.
+/// The text of a filter: its tokens with one space between two. Of a filter that was read, it is in ASCII, and
+/// parentheses stand round an operand exactly where the text without them does not read as the same filter. The empty
+/// filter is the empty text. In a filter made by hand, bytes that are no UTF-8 are printed as U+FFFD.
 #[tactic(auto, using(crate::proofs::Spaces::behind_first, crate::proofs::Spaces::written_text))]
 pub fn print_filter(alloc: Global, filter: &Filter) -> Result<String, NoMemory>
     // The text of a filter whose tokens can be written.

@@ -39,8 +39,8 @@ pub(crate) struct Lexeme {
     pub(crate) to: usize,
 }
 
-/// The tokens of a text, the last of them its end or bytes with which no token begins. Its time is linear in the text,
-/// and no byte is copied.
+/// The tokens of a text, the last of them its end or bytes with which no token begins: in one pass, and no byte is
+/// copied.
 pub(crate) fn tokenize(alloc: Global, text: &[u8]) -> Result<Vec<Lexeme>, NoMemory>
     ensures { IfOk result (λ lexemes. AreTokens 0 text.now (map (seen text.now) lexemes.items)) }
 {
@@ -62,7 +62,7 @@ pub(crate) fn tokenize(alloc: Global, text: &[u8]) -> Result<Vec<Lexeme>, NoMemo
     Ok(lexemes)
 }
 
-// A place that takes no bytes.
+/// A place that takes no bytes.
 pub(crate) fn mark(kind: Kind, at: usize) -> Lexeme
     ensures { result ≡ record { kind = kind; from = at; to = at } }
 {

@@ -25,7 +25,7 @@ pub struct Filter {
 pub enum Cond {
     Or(Boxed<Cond>, Boxed<Cond>),
     And(Boxed<Cond>, Boxed<Cond>),
-    /// One input of the row, or else one output, meets the condition inside.
+    /// Some input of the row where `inputs`, and else some output, meets the condition inside.
     Scope { inputs: bool, inner: Boxed<Cond> },
     /// The attribute of this name is printed as the value is.
     Is { name: Text, value: FilterValue },

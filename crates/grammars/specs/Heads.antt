@@ -7,7 +7,7 @@ use Rattle.grammars.specs.Text.{next}
 use Rattle.grammars.specs.Outcome.{Outcome, Got, Wrong, Deep}
 use Rattle.grammars.specs.Part.{Part, Goes, Alike, Completes, Decides, alike_next}
 
--- what holds of one condition holds of the other
+-- what meets the one condition meets the other
 abbrev pub Covers : {T : Type 0} → (C D : T → Type 0) → Type 0
 Covers C D = (t : _) → C t → D t
 

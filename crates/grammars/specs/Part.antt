@@ -2,8 +2,7 @@
 --
 -- A part is what a grammar says of a stretch of tokens and the value that it reads as. It is given twice: X is the part
 -- with its nesting bounded, Y the same part without the bound. A part may go on: behind `a` stands `+ b`. What it may
--- go
--- on with is given by C, as a condition on the next token; what follows the part elsewhere never meets it.
+-- go on with is given by C, as a condition on the next token; what follows the part elsewhere never meets it.
 use Rattle.std.specs.Prelude.{◌≡◌, ◌⊎◌, List, [], ◌∷◌, ◌++◌, refl}
 use Rattle.std.specs.List.{AllByRecursion}
 use Rattle.std.proofs.Common.{sym, ap, ◌∙◌}

@@ -9,7 +9,7 @@ use Rattle.grammars.specs.Part.{Part}
 abbrev pub kinds : {K : Type 0} → List (K × ℕ) → List K
 kinds = map (λ p. p.0)
 
--- What reads so does with the same tokens at other places, as another value.
+-- What reads as some value does with the same tokens at other places, as some value.
 abbrev pub Replaces : {K V : Type 0} → Part (K × ℕ) V → Type 0
 Replaces X = (u : List _) (v : _) → X u v → (w : List _) → kinds w ≡ kinds u → (x : _) × X w x
 

@@ -1,8 +1,7 @@
 -- How reading a part at the front of a text's tokens decides of the whole text.
 --
 -- The parts read tokens of T, which may have places. What counts of a token is its kind, and a language is of kinds.
--- The
--- last token of a text is one that stops it: its end, or bytes with which no token begins.
+-- The last token of a text is one that stops it: its end, or bytes with which no token begins.
 use Rattle.std.specs.Prelude.{◌≡◌, ◌⊎◌, Bool, true, false, List, [], ◌∷◌, ◌++◌, map, Some, refl}
 use Rattle.std.specs.List.{AllByRecursion}
 use Rattle.std.proofs.Common.{sym, ap, ◌∙◌, inl, inr, subst, true≢false}

@@ -21,3 +21,4 @@ pub use ledger::{Ledger, Tip};
 pub use offer::Accepted;
 pub use refusal::{BlockRefusal, OfferFault, StartFault};
 pub use unfinished::{LiveNonce, Unspent};
+pub use wire::NoMemory;

@@ -18,3 +18,4 @@ pub use check::{check_tx, check_with_ids};
 pub use context::context_of;
 pub use refusal::{TxFault, TxRefusal};
 pub use view::View;
+pub use vm_run::NoMemory;
