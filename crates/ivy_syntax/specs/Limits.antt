@@ -120,8 +120,8 @@ commas outside (t ∷ back) =
     else commas outside back)))
 
 abbrev pub at_least : ℕ → Option ℕ → Bool
-at_least most None = false
-at_least most (Some n) = nat_le most n
+at_least least None = false
+at_least least (Some n) = nat_le least n
 
 -- ---- the limits, each passed by a token behind which so many stand already
 

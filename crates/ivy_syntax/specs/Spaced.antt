@@ -1,4 +1,5 @@
--- What is added to a text as a source is printed: tokens behind those that stand there.
+-- What is added to a text as a source is printed: tokens behind those that stand there. Only contracts of private
+-- functions name it.
 use Rattle.std.specs.Prelude.{ℕ, Bool, true, false, List, [], ◌∷◌}
 use Rattle.std.specs.List.{flat_map}
 use Rattle.ivy_syntax.specs.declared.lexeme.Keyword.{Keyword}

@@ -72,7 +72,8 @@ pub record SourceIsWithin (source : Source) : Type 0 where
   pub contracts : length source.contracts ≤ 16
   pub each : AllByRecursion ContractIsWithin source.contracts
 
--- The tokens of a source pass no counted limit exactly where its tree has no more of anything than that.
+-- The tokens of a source pass no counted limit exactly where its tree has no more of anything than the counted limits
+-- say.
 abbrev pub LimitsByTree : Type 0
 LimitsByTree = (depth : ℕ) (tokens : List Placed) (source : Source)
     → File depth tokens source

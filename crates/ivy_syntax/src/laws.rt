@@ -21,7 +21,8 @@ pub fn source_sizes()
     ensures { SizeLaws }
 {}
 
-/// The tokens of a source pass no counted limit exactly where its tree has no more of anything than the limits say.
+/// The tokens of a source pass no counted limit exactly where its tree has no more of anything than those limits say.
+/// Nesting is no part of it: a tree has no parentheses.
 pub fn limits_by_tree()
     ensures { LimitsByTree }
 {}

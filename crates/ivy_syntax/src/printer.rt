@@ -19,10 +19,10 @@ use crate::{ClauseTree, Contract, Expr, Form, Group, Op, Req, Source, Stmt, Text
 use std::alloc::Global;
 use wire::{Bytes, NoMemory};
 
-/// The text of a source: its tokens with one space between two and a newline at the end, hex digits in lower case, and
-/// parentheses round an operand exactly where the text without them does not read as the same tree, apart from the
-/// places. What is read from a text is printed in ASCII; in a tree made by hand, bytes that are no UTF-8 are printed as
-/// U+FFFD.
+/// The text of a source: its tokens with one space between two and a newline at the end, hex digits in lower case. Of a
+/// source that was read, it is in ASCII, and parentheses stand round an operand exactly where the text without them
+/// does not read as the same tree, apart from the places. In a tree made by hand, bytes that are no UTF-8 are printed
+/// as U+FFFD.
 #[tactic(auto, using(crate::proofs::Spaces::written_text))]
 pub fn print(alloc: Global, source: &Source) -> Result<String, NoMemory>
     // The text of a source whose tokens can be written.
