@@ -7,15 +7,15 @@ use Rattle.outside.specs.Files.{Read, Write, WriteKind, Append, Replace}
 use Rattle.outside.specs.MemFiles.{Contents}
 use Rattle.outside.specs.declared.begun.BegunRead.{BegunRead}
 use Rattle.outside.specs.declared.begun.BegunWrite.{BegunWrite}
-use Rattle.outside.specs.declared.begun.Kind.{Kind}
-use Rattle.outside.specs.declared.begun.Kind.TheVariants.{Appended, Replaced}
+use Rattle.outside.specs.declared.begun.BegunKind.{BegunKind}
+use Rattle.outside.specs.declared.begun.BegunKind.TheVariants.{Appended, Replaced}
 
 -- a read that is kept
 abbrev pub read_of : BegunRead → Read
 read_of r = record { name = string_bytes r.name; most = r.most }
 
 -- which of the two writes
-abbrev pub write_kind : Kind → WriteKind
+abbrev pub write_kind : BegunKind → WriteKind
 write_kind Appended = Append
 write_kind Replaced = Replace
 

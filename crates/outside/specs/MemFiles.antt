@@ -17,6 +17,8 @@ pub record MemFilesState : Type 0 where
   pub calls : ℕ
   -- the calls that are to fail, counted from 0
   pub fails : List ℕ
+  -- how many bytes of its piece a failing append leaves, where it has as many
+  pub keep : ℕ
   -- the reads begun, the oldest first
   pub reads : List Read
   -- the appends and replaces begun, the oldest first
@@ -61,19 +63,20 @@ write_code =
 
 abbrev pub state_code : Coded MemFilesState
 state_code =
-    code_by (Contents × (ℕ × (List ℕ × (List Read × (List Write × (ℕ × ℕ))))))
+    code_by (Contents × (ℕ × (List ℕ × (ℕ × (List Read × (List Write × (ℕ × ℕ)))))))
     (coded× (map.code text_code text_code)
     (coded× coded_ℕ
     (coded× text_code
-    (coded× (coded_list read_code) (coded× (coded_list write_code) (coded× coded_ℕ coded_ℕ))))))
-    (λ s. (s.files, (s.calls, (s.fails, (s.reads, (s.writes, (s.read_faults, s.write_faults)))))))
+    (coded× coded_ℕ (coded× (coded_list read_code) (coded× (coded_list write_code) (coded× coded_ℕ coded_ℕ)))))))
+    (λ s. (s.files, (s.calls, (s.fails, (s.keep, (s.reads, (s.writes, (s.read_faults, s.write_faults))))))))
     (λ p. record {
       files = p.0;
       calls = p.1.0;
       fails = p.1.1.0;
-      reads = p.1.1.1.0;
-      writes = p.1.1.1.1.0;
-      read_faults = p.1.1.1.1.1.0;
-      write_faults = p.1.1.1.1.1.1;
+      keep = p.1.1.1.0;
+      reads = p.1.1.1.1.0;
+      writes = p.1.1.1.1.1.0;
+      read_faults = p.1.1.1.1.1.1.0;
+      write_faults = p.1.1.1.1.1.1.1;
     })
     (λ _. refl)

@@ -6,31 +6,31 @@ ghost use Rattle.outside.specs.Begun.{read_of, begun_write, write_kind};
 use crate::NoMemory;
 use std::alloc::Global;
 
-/// A read that was begun.
+/// A read that was begun: the file's name, and the most bytes that it was to have. One more was asked for.
 #[derive(Drop)]
 pub struct BegunRead {
     pub name: String,
     pub most: u64,
 }
 
-/// Which of the two writes.
+/// Which of the two writes was begun: bytes added at the end of a file, or its whole content set.
 #[derive(Clone, Copy, Debug, PartialEq, Eq)]
-pub enum Kind {
+pub enum BegunKind {
     Appended,
     Replaced,
 }
 
-/// An append or a replace that was begun, and whether it was answered Ok.
+/// An append or a replace that was begun: the file's name, the bytes, and whether it was answered Ok.
 #[derive(Drop)]
 pub struct BegunWrite {
-    pub kind: Kind,
+    pub kind: BegunKind,
     pub name: String,
     pub bytes: Vec<u8>,
     pub done: bool,
 }
 
 impl BegunRead {
-    pub fn new(alloc: Global, name: &str, most: u64) -> Result<BegunRead, NoMemory>
+    pub(crate) fn new(alloc: Global, name: &str, most: u64) -> Result<BegunRead, NoMemory>
         ensures { IfOk result (λ r. read_of r ≡ record { name = name.now; most = most }) }
     {
         let name = String::from_str(alloc, name)?;
@@ -39,9 +39,9 @@ impl BegunRead {
 }
 
 impl BegunWrite {
-    pub fn new(
+    pub(crate) fn new(
         alloc: Global,
-        kind: Kind,
+        kind: BegunKind,
         name: &str,
         bytes: &[u8],
         done: bool,

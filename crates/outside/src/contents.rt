@@ -4,10 +4,10 @@ ghost use Rattle.std.specs.FinMap as finite;
 ghost use Rattle.std.specs.Option.{option_copied};
 ghost use Rattle.outside.specs.Begun.{contents_of, write_kind};
 ghost use Rattle.outside.specs.Bytes.{AreBytes};
-ghost use Rattle.outside.specs.MemCalls.{content_after};
+ghost use Rattle.outside.specs.MemCalls.{content_after, torn_part, with_part};
 
 use crate::NoMemory;
-use crate::begun::Kind;
+use crate::begun::BegunKind;
 use std::alloc::Global;
 use std::collections::BTreeMap;
 
@@ -39,18 +39,45 @@ pub fn set_content(
 /// What a write leaves in a file that has `old`, or is missing.
 pub fn written(
     alloc: Global,
-    kind: Kind,
+    kind: BegunKind,
     old: Option<&[u8]>,
     bytes: &[u8],
 ) -> Result<Vec<u8>, NoMemory>
     ensures { IfOk result (λ v. v.items ≡ content_after (write_kind kind) (option_copied old.entry) bytes.now) }
 {
     let mut content = Vec::new(alloc);
-    if let (Kind::Appended, Some(old)) = (kind, old) {
+    if let (BegunKind::Appended, Some(old)) = (kind, old) {
         content.extend_from_slice(old)?;
     }
     content.extend_from_slice(bytes)?;
     Ok(content)
+}
+
+/// What a write that failed leaves of its bytes.
+pub fn torn(kind: BegunKind, keep: u64, bytes: &[u8]) -> &[u8]
+    ensures { result.now ≡ torn_part (write_kind kind) keep bytes.now }
+{
+    match kind {
+        BegunKind::Appended => &bytes[..bytes.len().min(keep as usize)],
+        BegunKind::Replaced => &bytes[..0],
+    }
+}
+
+/// Adds bytes at the end of a file. Where there are none, a missing file is not made.
+pub fn add_part(
+    alloc: Global,
+    files: &mut BTreeMap<String, Vec<u8>>,
+    name: &str,
+    part: &[u8],
+) -> Result<(), NoMemory>
+    ensures ok { OnOk result (contents_of files.new ≡ with_part name.now part.now (contents_of files.old)) }
+    ensures err { OnErr result (contents_of files.new ≡ contents_of files.old) }
+{
+    if part.is_empty() {
+        return Ok(());
+    }
+    let next = written(alloc, BegunKind::Appended, content(files, name), part)?;
+    set_content(alloc, files, name, next)
 }
 
 /// The first `most + 1` bytes, or all where they are fewer.

@@ -23,6 +23,7 @@ mod std_sink;
 mod tally;
 mod turns;
 
+pub use begun::{BegunKind, BegunRead, BegunWrite};
 pub use both::Both;
 pub use fault::FileFault;
 pub use files::Files;

@@ -1,16 +1,16 @@
 ghost use Rattle.std.specs.Prelude.{Some, ◌≡◌, ◌⊎◌, ◌<◌, ◌≤◌, ◌+◌, ◌^◌, ◌↔◌, [], take, Contains, IsTrue, OnOk, OnErr};
-ghost use Rattle.std.specs.Prelude.{IfOk, IsSomeAnd, IsNone, IsErrOf};
+ghost use Rattle.std.specs.Prelude.{IfOk, IsSomeAnd, IsNone, IsErrOf, map};
 ghost use Rattle.std.specs.FinMap as finite;
 ghost use Rattle.std.specs.Option.{option_copied};
 ghost use Rattle.outside.specs.Fault.{Counts, Rose};
 ghost use Rattle.outside.specs.Files.{Append, Replace, Wrote};
 ghost use Rattle.outside.specs.MemCalls.{with_call, with_file, with_read, with_failed_read, with_write};
-ghost use Rattle.outside.specs.MemCalls.{with_failed_write};
-ghost use Rattle.outside.specs.Begun.{write_kind};
+ghost use Rattle.outside.specs.MemCalls.{with_failed_write, with_keep};
+ghost use Rattle.outside.specs.Begun.{begun_write, read_of, write_kind};
 ghost use Rattle.outside.specs.Bytes.{held_as_bytes};
 
-use crate::begun::{BegunRead, BegunWrite, Kind};
-use crate::contents::{content, front, set_content, written};
+use crate::begun::{BegunKind, BegunRead, BegunWrite};
+use crate::contents::{add_part, content, front, set_content, torn, written};
 use crate::plan::is_to_fail;
 use crate::{FileFault, Files, NoMemory};
 use std::alloc::Global;
@@ -24,6 +24,7 @@ pub struct MemFiles {
     files: BTreeMap<String, Vec<u8>>,
     calls: u64,
     fails: Vec<u64>,
+    keep: u64,
     reads: Vec<BegunRead>,
     writes: Vec<BegunWrite>,
     read_faults: u64,
@@ -44,6 +45,7 @@ impl Model for MemFiles {
       files = contents_of s.files;
       calls = s.calls;
       fails = s.fails.items;
+      keep = s.keep;
       reads = map read_of s.reads.items;
       writes = map begun_write s.writes.items;
       read_faults = s.read_faults;
@@ -53,12 +55,13 @@ impl Model for MemFiles {
 
 impl MemFiles {
     /// No files. Calls of `read`, `append` and `replace` are counted together from 0, and those whose numbers are in
-    /// `fails` fail.
+    /// `fails` fail. A failing append leaves no byte of its piece, and a failing replace the old content.
     pub fn new(alloc: Global, fails: Vec<u64>) -> MemFiles
         ensures { result ≡ record {
           files = finite.empty;
           calls = 0;
           fails = fails.items;
+          keep = 0;
           reads = [];
           writes = [];
           read_faults = 0;
@@ -70,6 +73,7 @@ impl MemFiles {
             files: BTreeMap::new(alloc),
             calls: 0,
             fails,
+            keep: 0,
             reads: Vec::new(alloc),
             writes: Vec::new(alloc),
             read_faults: 0,
@@ -91,6 +95,28 @@ impl MemFiles {
         ensures { option_copied result ≡ finite.get self.now.files name.now }
     {
         content(&self.files, name)
+    }
+
+    /// From now on a failing append of any name leaves the first `keep` bytes of its piece after the old content, or
+    /// all of a shorter piece. One that leaves no byte makes no file. This is no counted call.
+    pub fn tear(&mut self, keep: u64)
+        ensures { self.new ≡ with_keep keep self.old }
+    {
+        self.keep = keep;
+    }
+
+    /// The reads begun, the oldest first, those that failed among them.
+    pub fn reads(&self) -> &[BegunRead]
+        ensures { map read_of result.now ≡ self.now.reads }
+    {
+        &self.reads
+    }
+
+    /// The appends and replaces begun, the oldest first, each with whether it was answered Ok.
+    pub fn writes(&self) -> &[BegunWrite]
+        ensures { map begun_write result.now ≡ self.now.writes }
+    {
+        &self.writes
     }
 
     /// How many calls of `read`, `append` and `replace` were made together, those that failed among them.
@@ -122,8 +148,8 @@ impl MemFiles {
         Ok(())
     }
 
-    // Keeps a write that fails, and counts the fault.
-    fn fail_write(&mut self, kind: Kind, name: &str, bytes: &[u8]) -> Result<(), NoMemory>
+    // Keeps a write that fails, leaves what it leaves of its bytes, and counts the fault.
+    fn fail_write(&mut self, kind: BegunKind, name: &str, bytes: &[u8]) -> Result<(), NoMemory>
         ensures ok { OnOk result (self.new ≡ with_failed_write (write_kind kind) name.now bytes.now self.old) }
         ensures err { OnErr result (self.new ≡ self.old) }
         ensures rises { OnOk result
@@ -131,12 +157,18 @@ impl MemFiles {
     {
         let begun = BegunWrite::new(self.alloc, kind, name, bytes, false)?;
         self.writes.push(begun)?;
+        let part = torn(kind, self.keep, bytes);
+        let left = add_part(self.alloc, &mut self.files, name, part);
+        if left.is_err() {
+            self.writes.pop();
+            return left;
+        }
         self.write_faults = self.write_faults.saturating_add(1);
         Ok(())
     }
 
     // Does a write, and keeps it.
-    fn do_write(&mut self, kind: Kind, name: &str, bytes: &[u8]) -> Result<(), NoMemory>
+    fn do_write(&mut self, kind: BegunKind, name: &str, bytes: &[u8]) -> Result<(), NoMemory>
         ensures ok { OnOk result (self.new ≡ with_write (write_kind kind) name.now bytes.now self.old) }
         ensures err { OnErr result (self.new ≡ self.old) }
     {
@@ -151,7 +183,7 @@ impl MemFiles {
     }
 
     // A counted write of either kind.
-    fn write(&mut self, kind: Kind, name: &str, bytes: &[u8]) -> Result<(), FileFault>
+    fn write(&mut self, kind: BegunKind, name: &str, bytes: &[u8]) -> Result<(), FileFault>
         ensures planned { IsErrOf result FileFault.Failed → Contains self.old.fails self.old.calls }
         ensures unplanned { OnOk result (¬ Contains self.old.fails self.old.calls) }
         ensures ok { OnOk result (self.new ≡ with_write (write_kind kind) name.now bytes.now (with_call self.old)) }
@@ -243,7 +275,7 @@ impl Files for MemFiles {
             (Some (held_as_bytes self.new.files)) }
         ensures count { Counts self.old.write_faults self.new.write_faults result }
     {
-        self.write(Kind::Appended, name, bytes)
+        self.write(BegunKind::Appended, name, bytes)
     }
 
     fn replace(&mut self, name: &str, bytes: &[u8]) -> Result<(), FileFault>
@@ -257,6 +289,6 @@ impl Files for MemFiles {
             (Some (held_as_bytes self.new.files)) }
         ensures count { Counts self.old.write_faults self.new.write_faults result }
     {
-        self.write(Kind::Replaced, name, bytes)
+        self.write(BegunKind::Replaced, name, bytes)
     }
 }
