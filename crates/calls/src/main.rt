@@ -2,6 +2,7 @@
 //! by line, and prints what each call answered. docs/CALLS.md has the lines of a script.
 #![tactic(auto)]
 
+mod begun;
 mod case;
 mod words;
 
@@ -39,23 +40,40 @@ fn play(rt: &(impl Print + AllocGlobal), case: &mut Case, line: &str) -> Result<
             Ok(())
         }
         ("call", words) => case.call(rt, words),
+        ("quiet", words) => case.call_quietly(rt, words),
         ("wide", words) => case.call(rt, &expanded(alloc, words)?),
         ("show", [name]) => case.show(rt, name.as_str()),
         ("calls", []) => case.tell_calls(rt),
+        ("begun", []) => case.show_begun(rt),
         (verb, rest) => prepare(alloc, case, verb, rest),
     }
 }
 
-// Lines that print nothing: what the next calls find, and which of their calls fail.
+// Lines that print nothing: what the next calls find.
 fn prepare(alloc: Global, case: &mut Case, verb: &str, rest: &[String]) -> Result<()> {
     match (verb, rest) {
         ("put", [name, hex]) => case.put(alloc, name.as_str(), single_bytes(alloc, hex.as_str())?),
+        ("text", [name, word]) => case.put(alloc, name.as_str(), word.as_bytes().to_vec(alloc)?),
         ("add", [name, times, word]) => {
             let piece = pieces_bytes(alloc, word.as_str())?;
             case.add(alloc, name.as_str(), times.parse::<u32>()?, &piece)
         }
+        (verb, rest) => plan(alloc, case, verb, rest),
+    }
+}
+
+// Lines that stand before the first call: which calls fail, what a failing append leaves, and good signatures.
+fn plan(alloc: Global, case: &mut Case, verb: &str, rest: &[String]) -> Result<()> {
+    match (verb, rest) {
         ("fails", calls) => case.fail_files(alloc, numbers(alloc, calls)?),
+        ("tear", [keep]) => case.tear_files(keep.parse::<u64>()?),
         ("sink", writes) => case.fail_sink(alloc, numbers(alloc, writes)?),
+        ("good", [key, message, signature]) => {
+            let key = single_bytes(alloc, key.as_str())?;
+            let message = single_bytes(alloc, message.as_str())?;
+            let signature = single_bytes(alloc, signature.as_str())?;
+            case.add_good(&key, &message, &signature)
+        }
         (verb, _) => bail!("no line of a script: {verb}"),
     }
 }

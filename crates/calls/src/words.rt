@@ -72,6 +72,31 @@ pub fn hex_word(alloc: Global, bytes: &[u8]) -> Result<String> {
     Ok(hex::encode(alloc, bytes)?)
 }
 
+/// The word that a line of a script has for a name. It is the name itself where that is not empty and all of its bytes
+/// are printable, none of them a blank or a quote; else it is in quotes, with `\xHH` for a byte.
+pub fn name_word(alloc: Global, name: &str) -> Result<String> {
+    let bytes = name.as_bytes();
+    if !bytes.is_empty() && bytes.iter().all(|byte| is_plain(*byte)) {
+        return Ok(String::from_str(alloc, name)?);
+    }
+    let mut quoted = String::from_str(alloc, "\"")?;
+    for byte in bytes {
+        if *byte == b' ' || (is_plain(*byte) && *byte != b'\\') {
+            quoted.push(char::from(*byte))?;
+        } else {
+            quoted.push_str("\\x")?;
+            quoted.push_str(hex::encode(alloc, &[*byte])?.as_str())?;
+        }
+    }
+    quoted.push('"')?;
+    Ok(quoted)
+}
+
+// Whether a byte may stand in a word that is not in quotes: a printable one but for the blank and the quote.
+fn is_plain(byte: u8) -> bool {
+    (b'!'..=b'~').contains(&byte) && byte != b'"'
+}
+
 /// The numbers that words say.
 pub fn numbers(alloc: Global, words: &[String]) -> Result<Vec<u64>> {
     let mut found = Vec::new(alloc);
