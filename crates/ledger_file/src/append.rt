@@ -3,16 +3,29 @@ ghost use Rattle.data_model.specs.Files.{block_frame};
 ghost use Rattle.data_model.specs.Spelling.{IsBlock};
 ghost use Rattle.outside.specs.Fault.{Counts};
 ghost use Rattle.outside.specs.Files.{Append, Wrote, WriteBegun};
+ghost use Rattle.outside.specs.Steps.{Write, Began};
 
 use data_model::{Block, frame};
-use outside::{FileFault, Files};
+use outside::{FileFault, Files, Outside};
 use std::alloc::Global;
 use wire::NoMemory;
 
-/// Adds a block at the end of a file, by one append of its frame. A missing file is made.
+/// Adds the frame of a block at the end of a file, by one append. A missing file is made. This is how a command adds a
+/// block whose frame it has read.
 ///
-/// `Failed` comes only where the count of the files' failed writes rose. The append was begun then, and a front of the
-/// frame may stand in the file. After `NoMemory` nothing was begun, and all is as before.
+/// `Failed` comes only where the count of failed writes rose: a prefix of the frame may stand in the file. After
+/// `NoMemory` nothing was begun, and all is as before.
+pub fn append_frame<O: Outside>(out: &mut O, name: &str, frame: &[u8]) -> Result<(), FileFault>
+    ensures { Began (Write Append name.now frame.now) (O.io out.old) (O.io out.new) result }
+{
+    out.append(name, frame)
+}
+
+/// Adds a block at the end of a file, by one append of its frame, for a caller that has files alone. A missing file is
+/// made.
+///
+/// `Failed` comes only where the count of the files' failed writes rose. The append was begun then, and a prefix of
+/// the frame may stand in the file. After `NoMemory` nothing was begun, and all is as before.
 pub fn append_block<F: Files>(
     alloc: Global,
     files: &mut F,

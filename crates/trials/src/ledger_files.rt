@@ -3,8 +3,8 @@ ghost use Rattle.data_model.specs.Spelling.{IsBlock};
 use data_model::{Block, DataKind, decode_block};
 use keyed::{NoSigs, Sha256Id};
 use ledger_core::{BlockRefusal, StartFault};
-use ledger_file::{LoadFault, append_block, frame, load};
-use outside::{FileFault, MemFiles};
+use ledger_file::{LoadFault, append_block, append_frame, frame, load, split_frame};
+use outside::{Both, FileFault, MemFiles, MemSink};
 use std::alloc::{AllocError, Global};
 use std::test::Fail;
 
@@ -109,5 +109,72 @@ fn blocks_behind_files(rt: HostRuntime) -> Result<(), Fail> {
     assert!(rt; answers == [Ok(()), Err(FileFault::Failed), Ok(())]);
     assert!(rt; files.get("ledger") == Some(file));
     assert!(rt; files.get("new") == Some(second) && files.calls() == 3);
+    Ok(())
+}
+
+#[test]
+fn first_frames(rt: HostRuntime) -> Result<(), Fail> {
+    let file: &[u8] = FILE;
+    for (bytes, len) in [
+        (file, 104),
+        (&file[104..], 104),
+        // none, a length alone, and a byte too few
+        (&file[..0], 0),
+        (&file[..1], 1),
+        (&file[..103], 103),
+        // from the wrong byte: lengths of 1, of 1 and of 0
+        (&file[1..], 2),
+        (&file[2..], 2),
+        (&file[3..], 1),
+        // a length of 128 in two bytes, and the same cut short
+        (b"\x80\x01\x05".as_slice(), 3),
+        (b"\x80".as_slice(), 1),
+        // a length with a group too many, and one of 64 MiB and a byte
+        (b"\x81\x00\x05\x06".as_slice(), 4),
+        (b"\x81\x80\x80\x20\x05".as_slice(), 5),
+        // bytes that spell no block
+        (b"\x02\x05\x06\x07".as_slice(), 3),
+    ] {
+        let (frame, more) = split_frame(bytes);
+        assert!(rt; len <= bytes.len());
+        assert!(rt; frame == &bytes[..len] && more == &bytes[len..]);
+    }
+    Ok(())
+}
+
+// A length of two bytes with as many bytes as it says, and the frame after them.
+#[test]
+fn longer_frames(rt: HostRuntime) -> Result<(), Fail> {
+    let mut bytes = vec![in rt.alloc(); 0x80, 0x01]?;
+    for _ in 0..128 {
+        bytes.push(7)?;
+    }
+    bytes.extend_from_slice(FILE)?;
+    let (frame, more) = split_frame(bytes.as_slice());
+    assert!(rt; frame.len() == 130 && more == FILE.as_slice());
+    Ok(())
+}
+
+#[test]
+fn frames_after_files(rt: HostRuntime) -> Result<(), Fail> {
+    let file: &[u8] = FILE;
+    let (first, more) = split_frame(file);
+    let (second, _) = split_frame(more);
+    let mut files = MemFiles::new(rt.alloc(), vec![in rt.alloc(); 1]?);
+    files.put("ledger", first)?;
+    let mut out = MemSink::new(rt.alloc(), Vec::new(rt.alloc()));
+    let mut both = Both {
+        files: &mut files,
+        out: &mut out,
+    };
+    let answers = [
+        append_frame(&mut both, "ledger", second),
+        append_frame(&mut both, "ledger", second),
+        append_frame(&mut both, "new", first),
+    ];
+    assert!(rt; answers == [Ok(()), Err(FileFault::Failed), Ok(())]);
+    assert!(rt; files.get("ledger") == Some(file));
+    assert!(rt; files.get("new") == Some(first) && files.calls() == 3);
+    assert!(rt; out.calls() == 0);
     Ok(())
 }
