@@ -15,18 +15,19 @@ use Rattle.outside.specs.Files.{Content, Append, bytes_in, write_of, ReadsAt}
 use Rattle.outside.specs.Files as files
 use Rattle.outside.specs.Steps.{Step, Read, Print}
 use Rattle.replies.specs.Answer.{GoesOn}
-use Rattle.replies.specs.Asking.{missing, too_long, found, checks, refused as is_refused, goes_on}
+use Rattle.replies.specs.Asking.{missing, too_long, found, refused as is_refused, goes_on}
 use Rattle.data_model.specs.Files.{block_frame, BlocksReadAs}
 use Rattle.ledger_file.specs.Files.{AreFramed, file_spelling}
 use Rattle.chain_top.specs.Growth.{HoldsBlocks, appends, offers_told, Grows, EndsGrown, ApplyReply, ApplyFor, GrowthLaws}
 use Rattle.command_lines.specs.Line.{accepted_line, refused_block}
 use Rattle.ledger_file.specs.Loading.{chain}
-use Rattle.replies.specs.Asking.{most_bytes, FitsWith}
-use Rattle.chain_top.specs.Loading.{LedgerOf, BlocksOf}
-use Rattle.chain_top.specs.Offers.{OfferOwes, accepted, refused, OffersOwe, none, next, offers_model}
+use Rattle.replies.specs.Asking.{most_bytes}
+use Rattle.replies.specs.Recipe.{model}
+use Rattle.ledger_file.specs.Loading.{LoadsAs}
+use Rattle.chain_top.specs.Commands.{apply}
+use Rattle.chain_top.specs.Offers.{OfferOwes, accepted, refused, OffersOwe, none, next}
 use Rattle.replies.specs.Plan.{End, Done, Refused, Missing, Plan, done, behind, Given, later, GivenBy}
 use Rattle.replies.specs.Reply.{Reply, ended, reply_of}
-use Rattle.chain_top.specs.Reply.{offered_model, offer_file_model, ledger_model, apply_model}
 use Rattle.replies.specs.Steps.{Line, lines_after, lines_of, reads_of, writes_of}
 use Rattle.word_lines.specs.Word.{Word}
 use Rattle.chain_top.specs.Known.{Known}
@@ -112,10 +113,10 @@ pub record Applied (hash : Hash) (check : Check) (ledger offers : Word) (given :
   pub steps : List Step
   pub first : given 0 ≡ Some held
   pub are : AreBytes held
-  pub is_ledger : LedgerOf hash check 1 held (Ok old)
+  pub is_ledger : LoadsAs hash check held (Ok old)
   pub second : given 1 ≡ Some more
   pub fit : AreBytes more
-  pub are_offers : BlocksOf 2 more (Ok offered)
+  pub are_offers : BlocksReadAs more (Ok offered)
   pub owe : OffersOwe hash check ledger old offered steps
   pub is : plan ≡ done (Read ledger most_bytes ∷ Read offers most_bytes ∷ steps)
 
@@ -134,46 +135,30 @@ not_refused line e = cc
 not_missing : Missing ≡ Done → ⊥
 not_missing e = cc
 
-module _ (hash : Hash) (check : Check) (ledger offers : Word) (given : Given) (held : List ℕ) (first : given 0 ≡ Some held) (are : AreBytes held) (old : List Block) (is_ledger : LedgerOf hash check 1 held (Ok old)) where
-  abbrev At : Plan → Type 0
-  At plan = ApplyRun hash check ledger offers given (behind (Read ledger most_bytes ∷ []) plan)
-
-  in_offers : (more : List ℕ) (offered : List Block) (plan : Plan) → given 1 ≡ Some more → AreBytes more → BlocksOf 2 more (Ok offered) → checks (FitsWith 2 held more) (λ fits. offers_model hash check ledger old offered) (later (later given)) plan → At (behind (Read offers most_bytes ∷ []) plan)
-  in_offers more offered plan second fit reads (is_refused bad) = ended_at (record { ends = λ e. absurd (not_refused _ (sym e)); nothing = refl })
-  in_offers more offered plan second fit reads (goes_on u fits (steps, owe, is)) = ran (record {
-    held = held;
-    more = more;
-    old = old;
-    offered = offered;
-    steps = steps;
-    first = first;
-    are = are;
-    is_ledger = is_ledger;
-    second = second;
-    fit = fit;
-    are_offers = reads;
-    owe = owe;
-    is = ap (λ (p : Plan). behind (Read ledger most_bytes ∷ []) (behind (Read offers most_bytes ∷ []) p)) is;
-  })
-
-  in_blocks : (more : List ℕ) (plan : Plan) → given 1 ≡ Some more → AreBytes more → offered_model hash check ledger held old more (later (later given)) plan → At (behind (Read offers most_bytes ∷ []) plan)
-  in_blocks more plan second fit (is_refused bad) = ended_at (record { ends = λ e. absurd (not_refused _ (sym e)); nothing = refl })
-  in_blocks more plan second fit (goes_on offered reads rest) = in_offers more offered plan second fit reads rest
-
-  in_file : (plan : Plan) → offer_file_model hash check ledger offers held old (later given) plan → At plan
-  in_file plan (missing is) = ended_at (record { ends = λ e. absurd (not_missing e); nothing = refl })
-  in_file plan (too_long bytes is past) = ended_at (record { ends = λ e. absurd (not_refused _ (sym e)); nothing = refl })
-  in_file plan (found more rest is short fit n) = in_blocks more rest is fit n
-
 module _ (hash : Hash) (check : Check) (ledger offers : Word) (given : Given) where
-  in_ledger : (held : List ℕ) (plan : Plan) → given 0 ≡ Some held → AreBytes held → ledger_model hash check ledger offers held (later given) plan → ApplyRun hash check ledger offers given (behind (Read ledger most_bytes ∷ []) plan)
-  in_ledger held plan first are (is_refused bad) = ended_at (record { ends = λ e. absurd (not_refused _ (sym e)); nothing = refl })
-  in_ledger held plan first are (goes_on old good rest) = in_file hash check ledger offers given held first are old good plan rest
-
-  pub apply_run : (plan : Plan) → apply_model hash check ledger offers given plan → ApplyRun hash check ledger offers given plan
+  pub apply_run : (plan : Plan) → model (apply hash check ledger offers) given plan → ApplyRun hash check ledger offers given plan
   apply_run plan (missing is) = ended_at (record { ends = λ e. absurd (not_missing e); nothing = refl })
   apply_run plan (too_long bytes is past) = ended_at (record { ends = λ e. absurd (not_refused _ (sym e)); nothing = refl })
-  apply_run plan (found held rest is short are n) = in_ledger held rest is are n
+  apply_run plan (found held rest is short are (is_refused bad)) = ended_at (record { ends = λ e. absurd (not_refused _ (sym e)); nothing = refl })
+  apply_run plan (found held rest is short are (goes_on old good (missing gone))) = ended_at (record { ends = λ e. absurd (not_missing e); nothing = refl })
+  apply_run plan (found held rest is short are (goes_on old good (too_long bytes second past))) = ended_at (record { ends = λ e. absurd (not_refused _ (sym e)); nothing = refl })
+  apply_run plan (found held rest is short are (goes_on old good (found more others second small fit (is_refused bad)))) = ended_at (record { ends = λ e. absurd (not_refused _ (sym e)); nothing = refl })
+  apply_run plan (found held rest is short are (goes_on old good (found more others second small fit (goes_on offered reads (is_refused bad))))) = ended_at (record { ends = λ e. absurd (not_refused _ (sym e)); nothing = refl })
+  apply_run plan (found held rest is short are (goes_on old good (found more others second small fit (goes_on offered reads (goes_on u fits (steps, owe, same)))))) = ran (record {
+    held = held;
+    more = more;
+    old = old.blocks;
+    offered = offered.blocks;
+    steps = steps;
+    first = is;
+    are = are;
+    is_ledger = good.0;
+    second = second;
+    fit = fit;
+    are_offers = reads.0;
+    owe = owe;
+    is = ap (λ (p : Plan). behind (Read ledger most_bytes ∷ []) (behind (Read offers most_bytes ∷ []) p)) same;
+  })
 
 -- what a file that is there reads as
 held_reads : (content : Content) (bs : List Block) → HoldsBlocks content bs → AreBytes (bytes_in content) × BlocksReadAs (bytes_in content) (Ok bs)
@@ -181,7 +166,7 @@ held_reads None bs h = absurd h
 held_reads (Some bytes) bs h = (h.0, h.1)
 
 module _ (laws : Known) (hash : Hash) (check : Check) where
-  ledger_reads : (held : List ℕ) (old : List Block) → LedgerOf hash check 1 held (Ok old) → BlocksReadAs held (Ok old) × Chain hash check old
+  ledger_reads : (held : List ℕ) (old : List Block) → LoadsAs hash check held (Ok old) → BlocksReadAs held (Ok old) × Chain hash check old
   ledger_reads held old (chain reads front) = (reads, front)
 
   -- a status of 0 is that of a plan that is done
@@ -189,11 +174,6 @@ module _ (laws : Known) (hash : Hash) (check : Check) where
   done_end steps Done at_zero = refl
   done_end steps (Refused line) at_zero = absurd (omega (arith, at_zero))
   done_end steps Missing at_zero = absurd (omega (arith, at_zero))
-
-  not_done_status : (steps : List Step) (end : End) → (ended steps end).status ≢ 0 → end ≢ Done
-  not_done_status steps Done not_zero = λ e. absurd (not_zero refl)
-  not_done_status steps (Refused line) not_zero = λ e. absurd (not_refused line (sym e))
-  not_done_status steps Missing not_zero = λ e. absurd (not_missing e)
 
   writes_line : (steps : List Step) (end : End) → writes_of steps ≡ [] → writes_of (ended steps end).steps ≡ []
   writes_line steps Done is = is
@@ -248,15 +228,18 @@ module _ (laws : Known) (hash : Hash) (check : Check) where
         let at : GivenBy (Some contents) (reads_of (Read ledger most_bytes ∷ Read offers most_bytes ∷ run.steps)) given = subst (λ (ss : List Step). GivenBy (Some contents) (reads_of ss) given) steps agrees in
         (at.0, at.1.0)
 
-    grows_for : (contents : List ℕ → Content) (reply : Reply) → ApplyFor hash check ledger offers contents reply → reply.status ≡ 0 → Grows hash check ledger (contents ledger) (contents offers) reply
-    grows_for contents reply (given, (plan, is, same), agrees) at_zero = by_run (apply_run hash check ledger offers given plan is)
+    pub given_reads : (contents : List ℕ → Content) (given : Given) (reply : Reply) → ApplyReply hash check ledger offers given reply → reply.status ≡ 0 → GivenBy (Some contents) (reads_of reply.steps) given → (given 0 ≡ contents ledger) × (given 1 ≡ contents offers)
+    given_reads contents given reply (plan, is, same) at_zero agrees = by_run (apply_run hash check ledger offers given plan is)
       where
-        by_run : ApplyRun hash check ledger offers given plan → Grows hash check ledger (contents ledger) (contents offers) reply
+        by_run : ApplyRun hash check ledger offers given plan → (given 0 ≡ contents ledger) × (given 1 ≡ contents offers)
         by_run (ended_at stop) = absurd (stop.ends (done_end plan.steps plan.end (sym (ap (λ (r : Reply). r.status) same) ∙ at_zero)))
-        by_run (ran run) =
-            (let both = given_of contents given plan reply same run agrees in
-            subst (λ (c : Content). Grows hash check ledger c (contents offers) reply) both.0
-            (subst (λ (c : Content). Grows hash check ledger (given 0) c reply) both.1 (grows_ran given plan reply same run)))
+        by_run (ran run) = given_of contents given plan reply same run agrees
+
+    grows_for : (contents : List ℕ → Content) (reply : Reply) → ApplyFor hash check ledger offers contents reply → reply.status ≡ 0 → Grows hash check ledger (contents ledger) (contents offers) reply
+    grows_for contents reply (given, at, agrees) at_zero =
+        let both = given_reads contents given reply at at_zero agrees in
+        subst (λ (c : Content). Grows hash check ledger c (contents offers) reply) both.0
+        (subst (λ (c : Content). Grows hash check ledger (given 0) c reply) both.1 (grows given reply at at_zero))
 
 -- ---- what the files hold at the end
 

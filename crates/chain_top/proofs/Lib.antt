@@ -1,14 +1,6 @@
-pub mod Asking
-pub mod Begun
-pub mod Concluding
+pub mod Calling
 pub mod Crashing
 pub mod Growing
-pub mod Headline
-pub mod Keys
-pub mod Lines
-pub mod Loaded
-pub mod Loads
-pub mod Models
 pub mod Offering
-pub mod VmLines
-pub mod Wholly
+pub mod Replies
+pub mod Sound

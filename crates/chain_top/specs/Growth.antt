@@ -9,6 +9,7 @@ use Rattle.ledger_core.specs.declared.refusal.BlockRefusal.{BlockRefusal}
 use Rattle.ledger_core.specs.Chain.{Chain, Accepted}
 use Rattle.outside.specs.Files.{Content, Write, Append, bytes_in, write_of}
 use Rattle.outside.specs.Crash.{IsMoment, MayLeave}
+use Rattle.outside.specs.World.{World}
 use Rattle.replies.specs.Answer.{GoesOn, done_of}
 use Rattle.replies.specs.Plan.{Plan, Given, GivenBy}
 use Rattle.replies.specs.Steps.{Line, lines_of, reads_of, writes_of}
@@ -17,7 +18,8 @@ use Rattle.ledger_file.specs.Files.{file_spelling}
 use Rattle.command_lines.specs.Line.{accepted_line, refused_block}
 use Rattle.ledger_core.specs.Refusal.{Hash}
 use Rattle.replies.specs.Reply.{Reply, reply_of}
-use Rattle.chain_top.specs.Reply.{apply_model}
+use Rattle.replies.specs.Recipe.{model}
+use Rattle.chain_top.specs.Commands.{apply}
 use Rattle.word_lines.specs.Word.{Word}
 
 -- a file is there, and reads as these blocks
@@ -66,6 +68,20 @@ EndsGrown ledger added before after =
     (bytes_in (after ledger) ≡ bytes_in (before ledger) ++ file_spelling added)
     × ((name : List ℕ) → bytes_eq name ledger ≡ false → after name ≡ before name)
 
+-- Where `apply` ended with status 0 the ledger grew by the accepted offers. Where the files tell, they held what the
+-- reads were given, and hold the grown ledger.
+pub record Grown (hash : Hash) (check : Check) (ledger offers : Word) (given : Given) (reply : Reply)
+    (before after : World) : Type 0 where
+  pub grows : Grows hash check ledger (given 0) (given 1) reply
+  pub read :
+      (contents : List ℕ → Content)
+      → before.contents ≡ Some contents
+      → (given 0 ≡ contents ledger) × (given 1 ≡ contents offers)
+  pub ends :
+      (contents : List ℕ → Content)
+      → before.contents ≡ Some contents
+      → IsSomeAnd after.contents (EndsGrown ledger grows.added contents)
+
 -- ---- a crash
 
 -- any string that is no longer than the frame of the first of these blocks, or nothing where there is none
@@ -88,7 +104,7 @@ pub record LeavesFront (bytes : List ℕ) (added : List Block) (answered : ℕ) 
 -- the replies to `apply`, for what its reads are given
 abbrev pub ApplyReply : Hash → Check → Word → Word → Given → Reply → Type 0
 ApplyReply hash check ledger offers given reply =
-    (plan : Plan) × apply_model hash check ledger offers given plan × (reply ≡ reply_of plan)
+    (plan : Plan) × model (apply hash check ledger offers) given plan × (reply ≡ reply_of plan)
 
 -- and for what the files hold by their names
 abbrev pub ApplyFor : Hash → Check → Word → Word → (List ℕ → Content) → Reply → Type 0

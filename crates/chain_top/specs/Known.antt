@@ -4,7 +4,7 @@ use Rattle.data_model.specs.Files.{BlockFileLaws}
 use Rattle.ledger_core.specs.Laws.{RefusalLaws, ChainLaws}
 use Rattle.ledger_core.specs.Roots.{Hash}
 use Rattle.ledger_file.specs.Laws.{FewBlocks, LoadLaws}
-use Rattle.replies.specs.Laws.{PlanLaws, StepLaws, TellLaws}
+use Rattle.replies.specs.Laws.{StepLaws, TellLaws}
 use Rattle.vm_num.specs.Item.{Item}
 use Rattle.vm_run.specs.Row.{Check}
 use Rattle.vm_run.specs.declared.context.Context.{Context}
@@ -23,7 +23,6 @@ pub record VerdictLaws : Type 0 where
       → a ≡ b
 
 pub record Known : Type 0 where
-  pub plans : PlanLaws
   pub steps : StepLaws
   pub tells : TellLaws
   pub files : BlockFileLaws

@@ -1,10 +1,12 @@
+pub mod Call
+pub mod Choice
+pub mod Commands
+pub mod Formats
 pub mod Growth
-pub mod Headline
 pub mod Initial
 pub mod Known
-pub mod Loading
+pub mod Laws
 pub mod Offered
 pub mod Offers
-pub mod Reading
+pub mod Reads
 pub mod Reply
-pub mod Whole

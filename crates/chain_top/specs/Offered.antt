@@ -6,7 +6,8 @@ use Rattle.ledger_core.specs.Refusal.{Hash}
 use Rattle.outside.specs.Steps.{Step}
 use Rattle.outside.specs.World.{Io}
 use Rattle.chain_top.specs.Offers.{OfferOwes, OffersOwe}
-use Rattle.replies.specs.Plan.{done, Does}
+use Rattle.replies.specs.Plan.{done, stop_of, Does}
+use Rattle.replies.specs.Runs.{MayStop}
 use Rattle.word_lines.specs.Word.{Word}
 use Rattle.replies.specs.declared.stop.Stop.{Stop}
 
@@ -25,4 +26,6 @@ pub record OffersDone {T : Type 0} (hash : Hash) (check : Check) (ledger : Word)
     (before after : Io) (result : Result T Stop) : Type 0 where
   pub steps : List Step
   pub owe : OffersOwe hash check ledger blocks offers steps
+  -- where they stopped, there is something to do
+  pub may : MayStop steps (stop_of result)
   pub does : Does (done steps) before after result

@@ -1,5 +1,5 @@
 -- What blocks owe that are offered to a ledger.
-use Rattle.std.specs.Prelude.{◌≡◌, List, [], ◌∷◌, ◌++◌, Some}
+use Rattle.std.specs.Prelude.{List, [], ◌∷◌, ◌++◌, Some}
 use Rattle.data_model.specs.declared.block.Block.{Block}
 use Rattle.entry_ids.specs.Entry.{header_id}
 use Rattle.vm_run.specs.Row.{Check}
@@ -9,11 +9,10 @@ use Rattle.outside.specs.Files.{Append}
 use Rattle.outside.specs.Steps.{Step, Write, Print}
 use Rattle.data_model.specs.Files.{block_frame}
 use Rattle.command_lines.specs.Line.{accepted_line, refused_block}
-use Rattle.replies.specs.Plan.{Plan, done, Given}
 use Rattle.word_lines.specs.Word.{Word}
 
 -- What one block owes that is offered after these blocks, and the blocks after it: an accepted one is appended to the
--- ledger and then told; a refused one is told.
+-- ledger and then reported; a refused one is reported.
 pub data OfferOwes (hash : Hash) (check : Check) (ledger : Word) (blocks : List Block) (block : Block)
     : List Block → List Step → Type 0 where
   accepted :
@@ -35,8 +34,3 @@ pub data OffersOwe (hash : Hash) (check : Check) (ledger : Word) : List Block �
       → OfferOwes hash check ledger blocks block after steps
       → OffersOwe hash check ledger after offers later
       → OffersOwe hash check ledger blocks (block ∷ offers) (steps ++ later)
-
--- as a model, which reads nothing
-abbrev pub offers_model : Hash → Check → Word → List Block → List Block → Given → Plan → Type 0
-offers_model hash check ledger blocks offers given plan =
-    (steps : List Step) × OffersOwe hash check ledger blocks offers steps × (plan ≡ done steps)

@@ -5,13 +5,13 @@ ghost use Rattle.outside.specs.Steps.{Write, Print};
 ghost use Rattle.entry_ids.specs.Entry.{header_id};
 ghost use Rattle.data_model.specs.Files.{block_frame};
 ghost use Rattle.data_model.specs.Spelling.{IsBlock, IsHeader};
-ghost use Rattle.chain_top.specs.Initial.{initial_block};
 ghost use Rattle.command_lines.specs.Line.{block_line};
-ghost use Rattle.replies.specs.Plan.{done, Does, Follows};
-ghost use Rattle.chain_top.specs.Reply.{init_steps, init_model};
+ghost use Rattle.replies.specs.Plan.{done, Does};
+ghost use Rattle.replies.specs.Runs.{Obeys};
+ghost use Rattle.chain_top.specs.Commands.{init, init_steps};
+ghost use Rattle.chain_top.specs.Initial.{initial_block};
 
-use crate::word::hex_word;
-use command_lines::block_line;
+use command_lines::{block_line, hex_word};
 use data_model::{Block, Header, Txs};
 use entry_ids::block_id;
 use keyed::IdHash;
@@ -21,7 +21,7 @@ use replies::{Stop, replace_and_say};
 use std::alloc::Global;
 use wire::{Args, Bytes, NoMemory};
 
-/// Sets the ledger to one frame, the initial block of this time and next program, and tells it.
+/// Sets the ledger to one frame, the initial block of this time and next program, and reports it.
 pub fn init<O: Outside, H: IdHash>(
     alloc: Global,
     ledger: &str,
@@ -31,19 +31,11 @@ pub fn init<O: Outside, H: IdHash>(
     hash: &H,
 ) -> Result<(), Stop>
     requires { time < 2 ^ 63 }
-    ensures { Follows (init_model (H.hash_of hash.now) ledger.now time program.now)
-        (O.io out.old) (O.io out.new) result }
+    ensures { Obeys (init (H.hash_of hash.now) ledger.now time program.now) (O.io out.old) (O.io out.new) result }
 {
-    match hex_word(alloc, program, 3) {
-        Ok(code) => start(
-            alloc,
-            ledger,
-            &initial_block(alloc, hash, time, code),
-            out,
-            hash,
-        ),
-        Err(stop) => Err(stop),
-    }
+    let code = hex_word(alloc, program, 3)?;
+    let block = initial_block(alloc, hash, time, code);
+    start(alloc, ledger, &block, out, hash)
 }
 
 // Sets the ledger to the frame of this block, and then prints its line.

@@ -4,14 +4,13 @@ ghost use Rattle.chain_top.specs.Known.{Known};
 use data_model::block_files;
 use ledger_core::{growing_chains, one_refusal};
 use ledger_file::{few_blocks, one_load};
-use replies::{plans_join, replies_tell, steps_join};
+use replies::{replies_tell, steps_join};
 use vm_run::laws::one_verdict;
 
 /// The laws of the crates below, for the proofs of this one. It does nothing when it runs.
 pub fn known()
     ensures { Known }
 {
-    plans_join();
     steps_join();
     replies_tell();
     block_files();

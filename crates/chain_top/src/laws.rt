@@ -2,25 +2,17 @@
 ghost use Rattle.vm_run.specs.Row.{Check};
 ghost use Rattle.ledger_core.specs.Refusal.{Hash};
 ghost use Rattle.chain_top.specs.Growth.{GrowthLaws, CrashLaws};
-ghost use Rattle.chain_top.specs.Whole.{ReplyLaws, AnswerLaws};
+ghost use Rattle.chain_top.specs.Laws.{ReplyLaws};
 
 use crate::known::known;
 use outside::{moments_join, others_stay, starts_kept};
-use replies::replies_tell;
 
-/// The model gives one reply to all words, whatever bytes the files hold, and the choice has no part in it.
+/// The model gives one reply to all words, whatever bytes the files hold. It has status 1 exactly where the words are
+/// outside the grammar, and no command of today goes by what a compiler chose.
 pub fn one_reply()
     ensures { (hash : Hash) (check : Check) → ReplyLaws hash check }
 {
     known();
-}
-
-/// A call in which nothing failed does all of the model's reply, or ends for want of memory.
-pub fn whole_answers()
-    ensures { (hash : Hash) (check : Check) → AnswerLaws hash check }
-{
-    replies_tell();
-    one_reply();
 }
 
 /// A ledger grows by exactly the offered blocks that are accepted one after the other, or not at all.

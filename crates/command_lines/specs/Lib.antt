@@ -1,3 +1,3 @@
-pub mod Faults
 pub mod Line
 pub mod Refused
+pub mod Words

@@ -4,10 +4,9 @@ ghost use Rattle.command_lines.specs.Line.{refused_hex, refused_file, refused_le
 ghost use Rattle.command_lines.specs.Line.{start_words, refusal_words, tx_in_block, tx_words};
 ghost use Rattle.word_lines.specs.Piece.{text_of};
 ghost use Rattle.replies.specs.Refused.{RefusesBy};
-ghost use Rattle.command_lines.specs.Refused.{RefusesLoad, words_of, tx_words_of};
+ghost use Rattle.command_lines.specs.Refused.{words_of, tx_words_of};
 
 use ledger_core::{BlockRefusal, StartFault};
-use ledger_file::LoadFault;
 use replies::{Stop, refusal};
 use std::alloc::Global;
 use tx_check::TxRefusal;
@@ -34,21 +33,18 @@ pub fn refused_file(alloc: Global, place: u64, index: u64, at: u64, kind: DataKi
     )
 }
 
-/// The refusal of the ledger that the word at this place names, by the fault of its file, or the want of memory that
-/// the fault is.
-pub fn refused_load(alloc: Global, place: u64, fault: &LoadFault) -> Stop
-    ensures { RefusesLoad place fault.now result }
+/// The refusal of a ledger whose first block starts no chain, and why.
+pub fn refused_start(alloc: Global, why: StartFault) -> Stop
+    ensures { RefusesBy (refused_ledger 0 (start_words why)) result }
 {
-    match fault {
-        LoadFault::Frame { index, at, kind } => refused_file(alloc, place, *index, *at, *kind),
-        LoadFault::Start(why) => refused_ledger(alloc, 0, start_words(*why)),
-        LoadFault::Block { index, refusal } => refused_ledger(
-            alloc,
-            *index,
-            refusal_words(refusal),
-        ),
-        LoadFault::NoMemory => Stop::NoMemory,
-    }
+    refused_ledger(alloc, 0, start_words(why))
+}
+
+/// The refusal of a ledger whose block of this number, from 0, does not extend those before it, and why.
+pub fn refused_next(alloc: Global, index: u64, refusal: &BlockRefusal) -> Stop
+    ensures { RefusesBy (refused_ledger index (refusal_words refusal.now)) result }
+{
+    refused_ledger(alloc, index, refusal_words(refusal))
 }
 
 fn refused_ledger(alloc: Global, index: u64, words: Words<'_>) -> Stop

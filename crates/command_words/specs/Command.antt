@@ -6,7 +6,7 @@ use Rattle.word_lines.specs.Word.{Word, decimal_within, decimal_most}
 
 -- a command with the words that it takes
 pub data Command : Type 0 where
-  -- the limit, the program and the arguments
+  -- the limit, the program and its arguments
   Vm : (limit : ℕ) (program : Word) (args : List Word) → Command
   -- the ledger's name, the time of its initial block and that block's next program
   Init : (ledger : Word) (time : ℕ) (program : Word) → Command
@@ -46,14 +46,25 @@ abbrev pub quorum_words : List Word → Option Command
 quorum_words [] = None
 quorum_words (m ∷ keys) = quorum_asked keys (decimal_within decimal_most m)
 
+-- a command's name, and what reads the words after it
+pub record Named : Type 0 where
+  pub name : Word
+  pub read : List Word → Option Command
+
+abbrev pub commands : List Named
+commands =
+    record { name = codes "vm"; read = vm_words }
+    ∷ record { name = codes "init"; read = init_words }
+    ∷ record { name = codes "apply"; read = apply_words }
+    ∷ record { name = codes "quorum"; read = quorum_words }
+    ∷ []
+
+-- the words after a name, as the first line of a table that has the name reads them
+abbrev pub read_by : List Named → Word → List Word → Option Command
+read_by [] name words = None
+read_by (line ∷ lines) name words = if bytes_eq name line.name then line.read words else read_by lines name words
+
 -- the command that words say; there is none where they are outside the grammar
 abbrev pub command_of : List Word → Option Command
 command_of [] = None
-command_of (name ∷ words) =
-    if bytes_eq name (codes "vm")
-    then vm_words words
-    else (if bytes_eq name (codes "init")
-    then init_words words
-    else (if bytes_eq name (codes "apply")
-    then apply_words words
-    else (if bytes_eq name (codes "quorum") then quorum_words words else None)))
+command_of (name ∷ words) = read_by commands name words

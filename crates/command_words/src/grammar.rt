@@ -1,8 +1,10 @@
 // The grammar of words.
-ghost use Rattle.std.specs.Prelude.{◌≡◌, ◌+◌, ◌<◌, ◌^◌, length, map, string_bytes, IfSome};
+ghost use Rattle.std.specs.Prelude.{◌≡◌, ◌+◌, ◌<◌, ◌^◌, length, map, string_bytes, IfOk, IfSome};
 ghost use Rattle.command_words.specs.Command.{command_of, vm_words, init_words, apply_words, quorum_words};
 ghost use Rattle.command_words.specs.Seen.{seen_command, HasLimit};
 
+use std::alloc::Global;
+use wire::NoMemory;
 use word_lines::{decimal, decimal_within};
 
 // Until predicates run in frames of their own, a limit is at most 100,000.
@@ -14,7 +16,7 @@ const KEYS_MOST: usize = 16;
 /// A command with the words that it takes.
 #[derive(Clone, Copy)]
 pub enum Command<'a> {
-    /// The limit, and the program with its arguments behind it.
+    /// The limit, at most 100,000, and the program and its arguments.
     Vm {
         limit: u64,
         program: &'a str,
@@ -38,18 +40,20 @@ pub enum Command<'a> {
     },
 }
 
-/// The command that words say, or none where they are outside the grammar.
-pub fn command_of(words: &[String]) -> Option<Command<'_>>
-    ensures reads { seen_command result ≡ command_of (map string_bytes words.now) }
-    ensures limit { HasLimit result }
+/// The command that words say, or none where they are outside the grammar. No command of today allocates for its words.
+pub fn command_of(_alloc: Global, words: &[String]) -> Result<Option<Command<'_>>, NoMemory>
+    ensures reads { IfOk result (λ command. seen_command command ≡ command_of (map string_bytes words.now)) }
+    ensures limit { IfOk result HasLimit }
 {
-    let (name, rest) = words.split_first()?;
+    let Some((name, rest)) = words.split_first() else {
+        return Ok(None);
+    };
     match name.as_str() {
-        "vm" => vm_words(rest),
-        "init" => init_words(rest),
-        "apply" => apply_words(rest),
-        "quorum" => quorum_words(rest),
-        _ => None,
+        "vm" => Ok(vm_words(rest)),
+        "init" => Ok(init_words(rest)),
+        "apply" => Ok(apply_words(rest)),
+        "quorum" => Ok(quorum_words(rest)),
+        _ => Ok(None),
     }
 }
 

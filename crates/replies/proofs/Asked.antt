@@ -1,25 +1,21 @@
 -- A file that was asked for.
-use Rattle.std.proofs.Common.{◌≡◌, ℕ, ◌+◌, ◌<◌, ◌≤◌, Bool, true, false, List, [], ◌∷◌, length, take, Option, Some, None, Ok, Err, nat_le, refl, sym, ◌∙◌, ap, subst, arith}
-use Rattle.std.specs.Prelude.{IfSome, IsSomeAnd, String, Vec, string_bytes, if◌then◌else◌}
+use Rattle.std.proofs.Common.{◌≡◌, ℕ, ◌+◌, ◌<◌, ◌≤◌, Bool, true, false, List, [], ◌∷◌, ◌++◌, length, take, Option, Some, None, Ok, Err, nat_le, refl, sym, ◌∙◌, ap, subst, arith}
+use Rattle.std.specs.Prelude.{option_to_list, IfSome, IsSomeAnd, String, Vec, string_bytes, if◌then◌else◌}
 use Rattle.std.specs.declared.alloc.Global.{Global}
 use Rattle.std.proofs.lemmas.Bool.Decides.{nat_tests}
 use Rattle.std.proofs.lemmas.List.{take_all, length-take}
 use Rattle.outside.specs.Bytes.{AreBytes, HoldsBytes}
 use Rattle.outside.specs.Files.{Content, ReadGives}
-use Rattle.outside.specs.Steps.{Read}
+use Rattle.outside.specs.Steps.{Step, Read, Print}
 use Rattle.outside.specs.World.{World, Io}
 use Rattle.replies.specs.Asking.{asked_end, Asked}
 use Rattle.replies.specs.Line.{refused_size}
-use Rattle.replies.specs.Plan.{End, Done, Refused, done, Went}
+use Rattle.replies.specs.Plan.{End, Done, Refused, Missing, TellsBytes, done, steps_with, Went}
 use Rattle.replies.specs.Refused.{RefusesBy}
-use Rattle.replies.specs.Steps.{Begun}
+use Rattle.replies.specs.Steps.{Begun, IsUndone}
 use Rattle.replies.specs.declared.stop.Stop.{Stop}
 use Rattle.replies.specs.declared.stop.Stop.TheVariants as stops
-use Rattle.replies.proofs.Fronts.{not_refused}
-
--- what is told of the files is bytes
-abbrev pub TellsBytes : World → Type 0
-TellsBytes w = (of : List ℕ → Content) (name : List ℕ) → w.contents ≡ Some of → HoldsBytes (of name)
+use Rattle.replies.specs.Fronts.{not_refused, no_print, undone-none}
 
 -- what the file holds, where the files tell
 held_at : (w : World) (name : List ℕ) → TellsBytes w → (content : Content) × HoldsBytes content × IfSome w.contents (λ of. content ≡ of name)
@@ -42,13 +38,31 @@ gave w name most bytes tells are short gives = by_contents w.contents refl gives
     by_contents None is given = (bytes, are, subst (λ (o : Option (List ℕ → Content)). IfSome o (λ of. Some bytes ≡ of name)) (sym is) tt, sym (take_all (most + 1) bytes short))
     by_contents (Some of) is given = by_content of is (of name) refl (tells of name is) given
 
+-- after a read alone a print is still to be done, if there is one
+read_undone : (name : List ℕ) (most : ℕ) (end : End) → IsUndone (steps_with (Read name most ∷ []) end) (Read name most ∷ [])
+read_undone name most Done = λ prints. absurd (no_print prints)
+read_undone name most (Refused line) = λ prints. (Print line, [], refl)
+read_undone name most Missing = λ prints. absurd (no_print prints)
+
+no_second : (name : List ℕ) (most : ℕ) (s t : Step) (rest : List Step) → Read name most ∷ [] ≡ s ∷ t ∷ rest → ⊥
+no_second name most s t rest e = cc
+
+read_front : (name : List ℕ) (most : ℕ) (end : End) (done rest : List Step) → Read name most ∷ [] ≡ done ++ rest → IsUndone (steps_with (Read name most ∷ []) end) done
+read_front name most end [] rest is = undone-none _
+read_front name most end (s ∷ []) rest is =
+    let same : s ∷ [] ≡ Read name most ∷ [] = cc in
+    subst (λ (xs : List Step). IsUndone (steps_with (Read name most ∷ []) end) xs) (sym same) (read_undone name most end)
+read_front name most end (s ∷ t ∷ ts) rest is = absurd (no_second name most s t (ts ++ rest) is)
+
 module _ (name : List ℕ) (most place : ℕ) (a b : Io) (tells : TellsBytes a.world) where
   -- the read stopped
   cut_at : (e : Stop) (end : End) → Went (done (Read name most ∷ [])) a b (Some e) → Went (record { steps = Read name most ∷ []; end = end }) a b (Some e)
   cut_at (stops.Refused line) end d = absurd (not_refused _ d.ends.0)
   cut_at stops.ReadFault end d = record { begun = d.begun; front = d.front; did = d.did; ends = d.ends; place = d.place }
   cut_at stops.WriteFault end d = record { begun = d.begun; front = d.front; did = d.did; ends = d.ends; place = d.place }
-  cut_at stops.NoMemory end d = record { begun = d.begun; front = d.front; did = d.did; ends = d.ends; place = d.place }
+  cut_at stops.NoMemory end d =
+      let is : Read name most ∷ [] ≡ d.begun.done ++ d.front.0 = d.front.1 ∙ ap (λ (o : Option Step). d.begun.done ++ (option_to_list o ++ d.front.0)) d.ends.0 in
+      record { begun = d.begun; front = d.front; did = d.did; ends = (d.ends.0, read_front name most end d.begun.done d.front.0 is); place = d.place }
 
   pub asked-cut : (e : Stop) → Went (done (Read name most ∷ [])) a b (Some e) → Asked name most place a b (Err e)
   asked-cut e d = (let held = held_at a.world name tells in record { content = held.0; holds = held.1; agrees = held.2; does = cut_at e (asked_end most place held.0) d; gives = tt })
@@ -61,7 +75,17 @@ module _ (name : List ℕ) (most place : ℕ) (a b : Io) (tells : TellsBytes a.w
         content = held.0;
         holds = held.1;
         agrees = held.2;
-        does = record { begun = d.begun; front = d.front; did = d.did; ends = ap (λ (x : Begun). x.failed) d.ends.1; place = d.place };
+        does =
+            record {
+              begun = d.begun;
+              front = d.front;
+              did = d.did;
+              ends = (
+                ap (λ (x : Begun). x.failed) d.ends.1,
+                subst (λ (x : Begun). IsUndone (steps_with (Read name most ∷ []) (asked_end most place held.0)) x.done) (sym d.ends.1) (read_undone name most (asked_end most place held.0)),
+              );
+              place = d.place;
+            };
         gives = tt;
       })
 

@@ -4,14 +4,14 @@ use Rattle.std.specs.Prelude.{String, string_bytes}
 use Rattle.std.specs.declared.alloc.Global.{Global}
 use Rattle.outside.specs.Steps.{Step, Print}
 use Rattle.outside.specs.World.{Io}
-use Rattle.replies.specs.Answer.{HasStatus, whole}
+use Rattle.replies.specs.Answer.{HasStatus, whole, no_memory}
 use Rattle.replies.specs.Ending.{Stops, Ended}
 use Rattle.replies.specs.Plan.{End, Done, Refused, Missing, Plan, done, Ends, Went}
 use Rattle.replies.specs.Reply.{Reply, ended, reply_of}
 use Rattle.replies.specs.Steps.{Begun, all_of, AllDone, IsFront}
 use Rattle.replies.specs.declared.stop.Stop.{Stop}
 use Rattle.replies.specs.declared.stop.Stop.TheVariants as stops
-use Rattle.replies.proofs.Fronts.{all-did, did-all, front-before, not_refused, plan_laws}
+use Rattle.replies.specs.Fronts.{undone-none, all-did, did-all, front-before, not_refused, plan_laws}
 
 -- a front of the plan is one of the reply
 front-ended : (steps : List Step) (end : End) (begun : Begun) → IsFront steps begun → IsFront (ended steps end).steps begun
@@ -20,18 +20,11 @@ front-ended steps (Refused line) begun front = front-before steps (Print line �
 front-ended steps Missing begun front = front
 
 module _ (plan : Plan) (a b : Io) where
-  -- the command was done
-  pub ended-done : Went plan a b None → Ended (reply_of plan) a b 0
-  ended-done w =
-      (let is = ap (λ (e : End). ended plan.steps e) w.ends.0 in
-      let at : Ended (ended plan.steps Done) a b 0 = record { begun = w.begun; front = w.front; did = w.did; has_status = whole refl (omega arith) w.ends.1; place = w.place } in
-      subst (λ (r : Reply). Ended r a b 0) (sym is) at)
-
   -- it stopped, and refused nothing
-  pub ended-stopped : (stop : Stop) (status : ℕ) → Went plan a b (Some stop) → ((line : String Global) → stop ≡ stops.Refused line → ⊥) → ((reply : Reply) (begun : Begun) → Stops stop begun → HasStatus reply begun status) → Ended (reply_of plan) a b status
+  pub ended-stopped : (stop : Stop) (status : ℕ) → Went plan a b (Some stop) → ((line : String Global) → stop ≡ stops.Refused line → ⊥) → ((reply : Reply) (begun : Begun) → Stops stop reply begun → HasStatus reply begun status) → Ended (reply_of plan) a b status
   ended-stopped stop status w not has = record { begun = w.begun; front = front-ended plan.steps plan.end w.begun w.front; did = w.did; has_status = has (reply_of plan) w.begun (stops_at stop w.ends not); place = w.place }
     where
-      stops_at : (s : Stop) → Ends plan (Some s) w.begun → ((line : String Global) → s ≡ stops.Refused line → ⊥) → Stops s w.begun
+      stops_at : (s : Stop) → Ends plan (Some s) w.begun → ((line : String Global) → s ≡ stops.Refused line → ⊥) → Stops s (reply_of plan) w.begun
       stops_at (stops.Refused line) ends not = not line refl
       stops_at stops.ReadFault ends not = ends
       stops_at stops.WriteFault ends not = ends
@@ -43,6 +36,10 @@ module _ (plan : Plan) (a b : Io) where
       (let w : Went plan a b (Some (stops.Refused line)) = subst (λ (s : Stop). Went plan a b (Some s)) same went in
       let is = ap (λ (e : End). ended plan.steps e) w.ends.0 in
       subst (λ (r : Reply). Ended r a c status) (sym is) (told plan.steps a w.place (did-all plan.steps a.world b.world w.begun w.ends.1 w.did)))
+
+-- memory ran out before the first step
+pub ended-none : (reply : Reply) (a : Io) → Ended reply a a 5
+ended-none reply a = record { begun = all_of []; front = (reply.steps, refl); did = all-did [] a.world a.world refl; has_status = no_memory refl refl (undone-none reply.steps); place = refl }
 
 -- ---- the last line
 
@@ -56,15 +53,15 @@ module _ (steps : List Step) (line : List ℕ) (start a b : Io) (same : a.place 
 
   pub told-all : (status : ℕ) → status ≤ 2 → Went (done (Print line ∷ [])) a b None → Ended (record { status = status; steps = steps ++ Print line ∷ [] }) start b status
   told-all status low said =
-      (let w = plan_laws.then (done steps) (done (Print line ∷ [])) start a b None before said in
+      (let w = plan_laws.then (done steps) (done (Print line ∷ [])) start a b None tt before said in
       record { begun = w.begun; front = w.front; did = w.did; has_status = whole refl low w.ends.1; place = w.place })
 
-  pub told-not : (status was : ℕ) (stop : Stop) → Went (done (Print line ∷ [])) a b (Some stop) → ((reply : Reply) (begun : Begun) → Stops stop begun → HasStatus reply begun was) → Ended (record { status = status; steps = steps ++ Print line ∷ [] }) start b was
+  pub told-not : (status was : ℕ) (stop : Stop) → Went (done (Print line ∷ [])) a b (Some stop) → ((reply : Reply) (begun : Begun) → Stops stop reply begun → HasStatus reply begun was) → Ended (record { status = status; steps = steps ++ Print line ∷ [] }) start b was
   told-not status was stop said has =
-      (let w = plan_laws.then (done steps) (done (Print line ∷ [])) start a b (Some stop) before said in
+      (let w = plan_laws.then (done steps) (done (Print line ∷ [])) start a b (Some stop) (λ prints. (Print line, [], refl)) before said in
       record { begun = w.begun; front = w.front; did = w.did; has_status = has _ w.begun (stops_at stop w.begun w.ends); place = w.place })
     where
-      stops_at : (stop : Stop) (begun : Begun) → Ends (done (steps ++ Print line ∷ [])) (Some stop) begun → Stops stop begun
+      stops_at : (stop : Stop) (begun : Begun) → Ends (done (steps ++ Print line ∷ [])) (Some stop) begun → Stops stop (record { status = status; steps = steps ++ Print line ∷ [] }) begun
       stops_at (stops.Refused other) begun ends = absurd (not_refused _ ends.0)
       stops_at stops.ReadFault begun ends = ends
       stops_at stops.WriteFault begun ends = ends

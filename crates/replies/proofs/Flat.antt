@@ -14,7 +14,7 @@ use Rattle.replies.specs.Laws.{StepLaws, TellLaws}
 use Rattle.replies.specs.Plan.{End, Done, Refused, Missing}
 use Rattle.replies.specs.Reply.{Reply, ended}
 use Rattle.replies.specs.Steps.{Begun, all_of, AllDone, ThenFailed, Did, IsFront, Line, lines_after, lines_of, reads_of, writes_of, printed_of}
-use Rattle.replies.proofs.Fronts.{did-all}
+use Rattle.replies.specs.Fronts.{did-all}
 
 -- ---- lists
 
@@ -281,7 +281,7 @@ tells : (reply : Reply) (a b : World) (status : ℕ) (begun : Begun) → IsFront
 tells reply a b status begun front did (whole same low all) = tells-whole reply a b status same (did-all reply.steps a b begun all did)
 tells reply a b status begun front did (read_fault three failed) = tells-front reply a b status begun (omega (arith, three)) front did
 tells reply a b status begun front did (write_fault four failed) = tells-front reply a b status begun (omega (arith, four)) front did
-tells reply a b status begun front did (no_memory five none) = tells-front reply a b status begun (omega (arith, five)) front did
+tells reply a b status begun front did (no_memory five none undone) = tells-front reply a b status begun (omega (arith, five)) front did
 
 -- ---- causes
 
@@ -322,7 +322,7 @@ has_causes reply a b status begun did (write_fault four failed) = record {
   write_fault = λ is. rose_write begun.failed a did.mid b (counts-all begun.done a did.mid did.done) did.failed failed;
   no_fault = λ no_read no_write. absurd (no_write four);
 }
-has_causes reply a b status begun did (no_memory five none) =
+has_causes reply a b status begun did (no_memory five none undone) =
     let counts = none_failed begun.failed a did.mid b (counts-all begun.done a did.mid did.done) did.failed none in
     record {
       bound = omega (arith, five);

@@ -7,28 +7,17 @@ use Rattle.outside.specs.Files.{Content, Read, Write, AllRead}
 use Rattle.outside.specs.Crash.{IsMoment}
 use Rattle.outside.specs.Steps.{is_read, joined}
 use Rattle.outside.specs.World.{World}
-use Rattle.replies.specs.Plan.{Given, GivenBy}
 use Rattle.replies.specs.Reply.{Reply}
-use Rattle.replies.specs.Steps.{Begun, all_of, Did, IsFront, Line, lines_of, reads_of, writes_of, printed_of}
+use Rattle.replies.specs.Steps.{Begun, all_of, IsUndone, Line, lines_of, reads_of, writes_of, printed_of}
 
--- What was begun of a reply, by the status: all of it, where that is the reply's, 0, 1 or 2; a front of which the last
--- step, a read, failed; one of which the last step, a write or a print, failed; or one before want of memory.
+-- What was begun of a reply, by the status: all of it, where that is the reply's, 0, 1 or 2; some first steps of which
+-- the last, a read, failed; some of which the last, a write or a print, failed; or, where memory ran out, some of which
+-- none failed and that leave the reply's last print to be done.
 pub data HasStatus (reply : Reply) (begun : Begun) (status : ℕ) : Type 0 where
   whole : status ≡ reply.status → reply.status ≤ 2 → begun ≡ all_of reply.steps → HasStatus reply begun status
   read_fault : status ≡ 3 → IsSomeAnd begun.failed (λ step. IsTrue (is_read step)) → HasStatus reply begun status
   write_fault : status ≡ 4 → IsSomeAnd begun.failed (λ step. IsFalse (is_read step)) → HasStatus reply begun status
-  no_memory : status ≡ 5 → begun.failed ≡ None → HasStatus reply begun status
-
--- There is a reply of the model, for what the files held, of which the call did a front, and nothing else.
-pub record Answers (model : Given → Reply → Type 0) (before after : World) (status : ℕ) : Type 0 where
-  pub given : Given
-  pub reply : Reply
-  pub is_reply : model given reply
-  pub agrees : GivenBy before.contents (reads_of reply.steps) given
-  pub begun : Begun
-  pub front : IsFront reply.steps begun
-  pub did : Did begun before after
-  pub has_status : HasStatus reply begun status
+  no_memory : status ≡ 5 → begun.failed ≡ None → IsUndone reply.steps begun.done → HasStatus reply begun status
 
 -- When a call ends with which status, of those that are no part of the reply.
 pub record HasCauses (before after : World) (status : ℕ) : Type 0 where
@@ -84,11 +73,3 @@ pub record Tells (reply : Reply) (before after : World) (status : ℕ) : Type 0 
       × (printed ≡ printed_of reply.steps)
       × (reads ≡ reads_of reply.steps)
       × (begun ≡ writes_of reply.steps)
-
--- There is a reply of the model, for what the files held, by which it went.
-pub record GoesBy (model : Given → Reply → Type 0) (before after : World) (status : ℕ) : Type 0 where
-  pub given : Given
-  pub reply : Reply
-  pub is_reply : model given reply
-  pub agrees : GivenBy before.contents (reads_of reply.steps) given
-  pub tells : Tells reply before after status

@@ -1,6 +1,6 @@
 -- Models that read a file, or check what was read, and then go on.
 use Rattle.std.specs.Prelude.{◌≡◌, ℕ, ◌+◌, ◌<◌, ◌≤◌, List, [], ◌∷◌, length, Some, None, Result, Ok, Err, if◌then◌else◌}
-use Rattle.std.specs.Prelude.{IfSome, IfOk, Vec, nat_le, string_bytes}
+use Rattle.std.specs.Prelude.{IfSome, IfOk, Vec, nat_le}
 use Rattle.std.specs.declared.alloc.Global.{Global}
 use Rattle.outside.specs.Bytes.{AreBytes, HoldsBytes}
 use Rattle.outside.specs.Files.{Content}
@@ -11,7 +11,6 @@ use Rattle.replies.specs.Plan.{End, Done, Refused, Missing, Plan, refuse, behind
 use Rattle.replies.specs.Plan.{GivenBy, Does}
 use Rattle.replies.specs.Steps.{reads_of}
 use Rattle.replies.specs.declared.stop.Stop.{Stop}
-use Rattle.replies.specs.declared.stop.Stop.TheVariants as stops
 
 -- the most bytes of a file, and of two files that a command holds together
 abbrev pub most_bytes : ℕ
@@ -41,15 +40,15 @@ pub data checks {V : Type 0} (is : Result V (List ℕ) → Type 0) (next : V →
   refused : {line : List ℕ} → is (Err line) → checks is next given (refuse line)
   goes_on : (value : V) {plan : Plan} → is (Ok value) → next value given plan → checks is next given plan
 
--- a fault is told by its line
+-- a fault is reported by its line
 abbrev pub lined : {V F : Type 0} → (F → List ℕ) → (Result V F → Type 0) → Result V (List ℕ) → Type 0
 lined line_of is (Ok value) = is (Ok value)
 lined {F = F} line_of is (Err line) = (fault : F) × is (Err fault) × (line ≡ line_of fault)
 
--- two files of these bytes are together within the size of one, or the line that refuses the second
-abbrev pub FitsWith : ℕ → List ℕ → List ℕ → Result (Unit {0}) (List ℕ) → Type 0
-FitsWith place first second (Ok u) = length first + length second ≤ most_bytes
-FitsWith place first second (Err line) = (most_bytes < length first + length second) × (line ≡ refused_size place)
+-- that files of these sizes are together within the size of one, or the line that refuses the one at this place
+abbrev pub fit_together : ℕ → ℕ → ℕ → Result (Unit {0}) (List ℕ)
+fit_together place first second =
+    if nat_le (first + second) most_bytes then Ok tt else Err (refused_size place)
 
 -- ---- what holds of models
 
@@ -103,11 +102,3 @@ pub record Asked (name : List ℕ) (most place : ℕ) (before after : Io) (resul
   pub agrees : IfSome before.world.contents (λ of. content ≡ of name)
   pub does : Does (record { steps = Read name most ∷ []; end = asked_end most place content }) before after result
   pub gives : IfOk result (λ bytes. content ≡ Some bytes.items)
-
--- something was checked; want of memory is free
-abbrev pub Checked : {T V : Type 0} → (T → V) → (Result V (List ℕ) → Type 0) → Result T Stop → Type 0
-Checked view is (Ok x) = is (Ok (view x))
-Checked view is (Err (stops.Refused line)) = is (Err (string_bytes line))
-Checked view is (Err stops.ReadFault) = ⊥
-Checked view is (Err stops.WriteFault) = ⊥
-Checked view is (Err stops.NoMemory) = Unit {0}

@@ -3,15 +3,16 @@ use Rattle.std.specs.Prelude.{◌≡◌, ℕ, List, [], ◌∷◌, ◌++◌, Opt
 use Rattle.outside.specs.Steps.{Step, Read}
 use Rattle.outside.specs.World.{World, Io}
 use Rattle.replies.specs.Answer.{HasStatus, GoesOn, Tells, HasCauses}
-use Rattle.replies.specs.Plan.{End, Done, Plan, behind, Went}
+use Rattle.replies.specs.Plan.{End, Done, Plan, behind, Went, Onward}
 use Rattle.replies.specs.Reply.{Reply, ended}
 use Rattle.replies.specs.Steps.{Begun, all_of, Did, IsFront, reads_of, writes_of}
 use Rattle.replies.specs.declared.stop.Stop.{Stop}
 
 pub record PlanLaws : Type 0 where
-  -- all of the first plan, and then a front of the second
+  -- all of the first plan, and then some first steps of the second
   pub then :
       (p q : Plan) (a b c : Io) (stop : Option Stop)
+      → Onward p.steps q stop
       → Went p a b None
       → Went q b c stop
       → Went (behind p.steps q) a c stop

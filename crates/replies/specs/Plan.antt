@@ -4,9 +4,9 @@ use Rattle.std.specs.Prelude.{IsTrue, IsFalse, string_bytes}
 use Rattle.outside.specs.Bytes.{HoldsBytes}
 use Rattle.outside.specs.Files.{Content}
 use Rattle.outside.specs.Files as files
-use Rattle.outside.specs.Steps.{Step, is_read}
-use Rattle.outside.specs.World.{Io}
-use Rattle.replies.specs.Steps.{Begun, all_of, Did, IsFront, reads_of}
+use Rattle.outside.specs.Steps.{Step, Print, is_read}
+use Rattle.outside.specs.World.{World, Io}
+use Rattle.replies.specs.Steps.{Begun, all_of, Did, IsFront, NotEmpty, ends_in_print, IsUndone, reads_of}
 use Rattle.replies.specs.declared.stop.Stop.{Stop}
 use Rattle.replies.specs.declared.stop.Stop.TheVariants as stops
 
@@ -29,6 +29,12 @@ done steps = record { steps = steps; end = Done }
 abbrev pub refuse : List ℕ → Plan
 refuse line = record { steps = []; end = Refused line }
 
+-- the steps of a reply that ends so: a refusal prints its line
+abbrev pub steps_with : List Step → End → List Step
+steps_with steps Done = steps
+steps_with steps (Refused line) = steps ++ Print line ∷ []
+steps_with steps Missing = steps
+
 -- steps before a plan
 abbrev pub behind : List Step → Plan → Plan
 behind steps plan = record { steps = steps ++ plan.steps; end = plan.end }
@@ -47,6 +53,10 @@ later given = λ n. given (suc n)
 abbrev pub AreBytesGiven : Given → Type 0
 AreBytesGiven given = (n : ℕ) → HoldsBytes (given n)
 
+-- what is told of the files is bytes
+abbrev pub TellsBytes : World → Type 0
+TellsBytes w = (of : List ℕ → Content) (name : List ℕ) → w.contents ≡ Some of → HoldsBytes (of name)
+
 -- what is given to these reads, in order, is what the files hold, where they tell
 abbrev pub GivenBy : Option (List ℕ → Content) → List files.Read → Given → Type 0
 GivenBy contents [] given = Unit {0}
@@ -61,13 +71,14 @@ stop_of (Ok x) = None
 stop_of (Err stop) = Some stop
 
 -- What was begun of a plan: all, where the part ended by itself or refused; else some, of which the last perhaps
--- failed.
+-- failed. Where memory ran out no step failed, and a print that ends the reply is still to be done.
 abbrev pub Ends : Plan → Option Stop → Begun → Type 0
 Ends plan None begun = (plan.end ≡ Done) × (begun ≡ all_of plan.steps)
 Ends plan (Some (stops.Refused line)) begun = (plan.end ≡ Refused (string_bytes line)) × (begun ≡ all_of plan.steps)
 Ends plan (Some stops.ReadFault) begun = IsSomeAnd begun.failed (λ step. IsTrue (is_read step))
 Ends plan (Some stops.WriteFault) begun = IsSomeAnd begun.failed (λ step. IsFalse (is_read step))
-Ends plan (Some stops.NoMemory) begun = begun.failed ≡ None
+Ends plan (Some stops.NoMemory) begun =
+    (begun.failed ≡ None) × IsUndone (steps_with plan.steps plan.end) begun.done
 
 -- A part did a front of the plan, all of it where it ended by itself, and nothing else.
 pub record Went (plan : Plan) (before after : Io) (stop : Option Stop) : Type 0 where
@@ -79,6 +90,12 @@ pub record Went (plan : Plan) (before after : Io) (stop : Option Stop) : Type 0 
 
 abbrev pub Does : {T : Type 0} → Plan → Io → Io → Result T Stop → Type 0
 Does plan before after result = Went plan before after (stop_of result)
+
+-- What stopped a plan that comes after these steps may stop both together: where they end in a print, the plan has a
+-- step.
+abbrev pub Onward : List Step → Plan → Option Stop → Type 0
+Onward steps plan None = Unit {0}
+Onward steps plan (Some stop) = IsTrue (ends_in_print steps) → NotEmpty (steps_with plan.steps plan.end)
 
 -- There is a plan of the model, for what the files hold, that a part did a front of.
 pub record WentBy (model : Given → Plan → Type 0) (before after : Io) (stop : Option Stop) : Type 0 where

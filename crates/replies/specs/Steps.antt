@@ -1,5 +1,6 @@
 -- What a call begins on the outside, one step after the other.
-use Rattle.std.specs.Prelude.{◌≡◌, ℕ, suc, true, List, [], ◌∷◌, ◌++◌, Option, Some, None, option_to_list}
+use Rattle.std.specs.Prelude.{◌≡◌, ℕ, suc, Bool, true, false, List, [], ◌∷◌, ◌++◌, Option, Some, None, IsTrue}
+use Rattle.std.specs.Prelude.{option_to_list}
 use Rattle.outside.specs.Files as files
 use Rattle.outside.specs.Steps.{Step, Read, Write, Print, WasDone, HasFailed}
 use Rattle.outside.specs.World.{World}
@@ -30,6 +31,33 @@ pub record Did (begun : Begun) (before after : World) : Type 0 where
 -- What was begun is a front of these steps. Behind a step that failed none is begun.
 abbrev pub IsFront : List Step → Begun → Type 0
 IsFront steps begun = (rest : List Step) × (steps ≡ begun.done ++ (option_to_list begun.failed ++ rest))
+
+-- ---- what is left to do
+
+abbrev pub is_print : Step → Bool
+is_print (Read name most) = false
+is_print (Write kind name bytes) = false
+is_print (Print text) = true
+
+-- the last of these steps is a print; where there is none, so it is said
+abbrev pub last_prints : Bool → List Step → Bool
+last_prints so [] = so
+last_prints so (step ∷ steps) = last_prints (is_print step) steps
+
+abbrev pub ends_in_print : List Step → Bool
+ends_in_print steps = last_prints false steps
+
+-- there is a step
+abbrev pub NotEmpty : List Step → Type 0
+NotEmpty steps = (step : Step) × (rest : List Step) × (steps ≡ step ∷ rest)
+
+-- these are the first of the steps, and another comes after them
+abbrev pub HasMore : List Step → List Step → Type 0
+HasMore steps done = (step : Step) × (rest : List Step) × (steps ≡ done ++ step ∷ rest)
+
+-- Where the last step is a print, not all is done.
+abbrev pub IsUndone : List Step → List Step → Type 0
+IsUndone steps done = IsTrue (ends_in_print steps) → HasMore steps done
 
 -- ---- what steps come to
 

@@ -1,7 +1,9 @@
 // The calls on the outside, each with what stops a command where it fails.
-ghost use Rattle.std.specs.Prelude.{◌<◌, ◌≤◌, ◌+◌, ◌^◌, [], ◌∷◌, length, IfOk};
+ghost use Rattle.std.specs.Prelude.{◌≡◌, ◌<◌, ◌≤◌, ◌+◌, ◌^◌, [], ◌∷◌, length, IsFalse, IfOk};
 ghost use Rattle.outside.specs.Files.{Append, Replace, ReadGives};
-ghost use Rattle.outside.specs.Steps.{Read, Write, Print};
+ghost use Rattle.outside.specs.Steps.{Step, Read, Write, Print, Began, is_read};
+ghost use Rattle.outside.specs.World.{Io};
+ghost use Rattle.replies.specs.Faults.{read_stop, write_stop};
 ghost use Rattle.replies.specs.Plan.{done, Does};
 
 use crate::stop::Stop;
@@ -17,20 +19,40 @@ pub fn read<O: Outside>(alloc: Global, out: &mut O, name: &str, most: u64) -> Re
 {
     match out.read(alloc, name, most) {
         Ok(bytes) => Ok(bytes),
-        Err(FileFault::Failed) => Err(Stop::ReadFault),
-        Err(FileFault::NoMemory) => Err(Stop::NoMemory),
+        Err(fault) => Err(read_stop(fault)),
     }
 }
 
-/// Adds bytes at the end of a file, which is made where it is missing. Where that fails, a front of them may stand
-/// there.
-pub fn append<O: Outside>(out: &mut O, name: &str, bytes: &[u8]) -> Result<(), Stop>
-    ensures { Does (done (Write Append name.now bytes.now ∷ [])) (O.io out.old) (O.io out.new) result }
+// What stops a command where a read was not done.
+fn read_stop(fault: FileFault) -> Stop
+    ensures { result ≡ read_stop fault }
 {
-    match out.append(name, bytes) {
+    match fault {
+        FileFault::Failed => Stop::ReadFault,
+        FileFault::NoMemory => Stop::NoMemory,
+    }
+}
+
+/// What a write or a print answered, with what stops a command where it failed.
+pub fn written(answer: Result<(), FileFault>) -> Result<(), Stop>
+    ensures { (step : Step) (before after : Io)
+        → IsFalse (is_read step)
+        → Began step before after answer
+        → Does (done (step ∷ [])) before after result }
+{
+    match answer {
         Ok(()) => Ok(()),
-        Err(FileFault::Failed) => Err(Stop::WriteFault),
-        Err(FileFault::NoMemory) => Err(Stop::NoMemory),
+        Err(fault) => Err(write_stop(fault)),
+    }
+}
+
+// What stops a command where a write or a print was not done.
+fn write_stop(fault: FileFault) -> Stop
+    ensures { result ≡ write_stop fault }
+{
+    match fault {
+        FileFault::Failed => Stop::WriteFault,
+        FileFault::NoMemory => Stop::NoMemory,
     }
 }
 
@@ -39,38 +61,14 @@ pub fn append<O: Outside>(out: &mut O, name: &str, bytes: &[u8]) -> Result<(), S
 pub fn replace<O: Outside>(out: &mut O, name: &str, bytes: &[u8]) -> Result<(), Stop>
     ensures { Does (done (Write Replace name.now bytes.now ∷ [])) (O.io out.old) (O.io out.new) result }
 {
-    match out.replace(name, bytes) {
-        Ok(()) => Ok(()),
-        Err(FileFault::Failed) => Err(Stop::WriteFault),
-        Err(FileFault::NoMemory) => Err(Stop::NoMemory),
-    }
+    written(out.replace(name, bytes))
 }
 
-/// Prints one line, its newline among its bytes. Where that fails, a front of it may be printed.
+/// Prints one line, its newline among its bytes. Where that fails, a prefix of it may be printed.
 pub fn say<O: Outside>(out: &mut O, line: &[u8]) -> Result<(), Stop>
     ensures { Does (done (Print line.now ∷ [])) (O.io out.old) (O.io out.new) result }
 {
-    match out.print(line) {
-        Ok(()) => Ok(()),
-        Err(FileFault::Failed) => Err(Stop::WriteFault),
-        Err(FileFault::NoMemory) => Err(Stop::NoMemory),
-    }
-}
-
-/// Adds bytes at the end of a file, and where that was done prints a line.
-pub fn append_and_say<O: Outside>(
-    out: &mut O,
-    name: &str,
-    bytes: &[u8],
-    line: &[u8],
-) -> Result<(), Stop>
-    ensures { Does (done (Write Append name.now bytes.now ∷ Print line.now ∷ []))
-        (O.io out.old) (O.io out.new) result }
-{
-    match append(out, name, bytes) {
-        Ok(()) => say(out, line),
-        Err(stop) => Err(stop),
-    }
+    written(out.print(line))
 }
 
 /// Sets the whole content of a file, and where that was done prints a line.

@@ -8,9 +8,9 @@ mod refusals;
 mod status;
 mod stop;
 
-pub use calls::{append, append_and_say, read, replace, replace_and_say, say};
-pub use files::{ask, fit_together};
+pub use calls::{read, replace, replace_and_say, say, written};
+pub use files::{MOST_BYTES, ask, fit_together};
 pub use laws::{plans_join, replies_tell, steps_join};
 pub use refusals::{refusal, refused_size};
-pub use status::{close, usage};
+pub use status::{close, out_of_memory, usage};
 pub use stop::Stop;

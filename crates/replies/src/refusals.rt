@@ -9,7 +9,7 @@ use wire::NoMemory;
 use word_lines::Piece::{self, Number};
 use word_lines::line;
 
-/// The refusal by the line of this head and these words, or the want of memory for that line.
+/// The refusal by the line of this head and these words, or out of memory for that line.
 pub fn refusal(alloc: Global, head: &str, words: &[Piece]) -> Stop
     ensures { RefusesBy (text_of_line head.now words.now) result }
 {

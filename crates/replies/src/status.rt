@@ -22,14 +22,14 @@ const REFUSED: u8 = 2;
 const READ_FAULT: u8 = 3;
 /// A write to a file or to the sink failed.
 const WRITE_FAULT: u8 = 4;
-/// Memory was wanted and not found.
+/// Memory ran out.
 const NO_MEMORY: u8 = 5;
 
 const USAGE_LINE: &[u8] = b"usage\n";
 
 /// Ends a call whose command came so far: prints the line of a refusal, and gives the status. It is 0 where the command
 /// was done, 2 where it refused, 3 where a read failed, 4 where an append, a replace or a print failed, 5 where memory
-/// was wanted.
+/// ran out.
 pub fn close<O: Outside>(outcome: Result<(), Stop>, out: &mut O) -> u8
     ensures { (plan : Plan) (start : Io)
         → Does plan start (O.io out.old) outcome
@@ -54,11 +54,18 @@ fn close_at<O: Outside>(stop: Stop, out: &mut O) -> u8
 }
 
 /// Ends a call whose words are outside the grammar: prints that, and gives the status 1, or 4 where the print failed
-/// and 5 where memory was wanted.
+/// and 5 where memory ran out.
 pub fn usage<O: Outside>(out: &mut O) -> u8
     ensures { Ended usage_reply (O.io out.old) (O.io out.new) result }
 {
     told(out, USAGE_LINE, USAGE)
+}
+
+/// Ends a call where memory ran out before its first step: gives the status 5.
+pub fn out_of_memory() -> u8
+    ensures { (reply : Reply) (io : Io) → Ended reply io io result }
+{
+    NO_MEMORY
 }
 
 // Prints the last line of a reply of this status, whose other steps were done.
@@ -77,7 +84,7 @@ fn told<O: Outside>(out: &mut O, line: &[u8], status: u8) -> u8
 
 // The status of a call that stopped.
 fn stopped(stop: &Stop) -> u8
-    ensures { (reply : Reply) (begun : Begun) → Stops stop.now begun → HasStatus reply begun result }
+    ensures { (reply : Reply) (begun : Begun) → Stops stop.now reply begun → HasStatus reply begun result }
 {
     match stop {
         Stop::Refused(_) => REFUSED,

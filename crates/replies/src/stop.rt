@@ -1,4 +1,5 @@
-// Why a command ends before its last step.
+use wire::NoMemory;
+
 /// Why a command ends before its last step.
 #[derive(Drop)]
 pub enum Stop {
@@ -8,6 +9,17 @@ pub enum Stop {
     ReadFault,
     /// An append, a replace or a print failed.
     WriteFault,
-    /// Memory was wanted and not found.
+    /// Memory ran out.
     NoMemory,
+}
+
+impl From<NoMemory> for Stop {
+    ghost use Rattle.std.specs.Prelude.{◌≡◌};
+    ghost use Rattle.replies.specs.declared.stop.Stop.TheVariants as stops;
+
+    ghost from_gives = { λ _ e. e ≡ stops.NoMemory };
+
+    fn from(_: NoMemory) -> Stop {
+        Stop::NoMemory
+    }
 }

@@ -1,6 +1,6 @@
 -- What words are read as.
-use Rattle.std.specs.Prelude.{ℕ, suc, ◌-◌, ◌^◌, ◌==◌, ◌&&◌, ◌||◌, Bool, true, false, List, [], ◌∷◌, length}
-use Rattle.std.specs.Prelude.{Option, Some, None, Result, Ok, Err, if◌then◌else◌, nat_le}
+use Rattle.std.specs.Prelude.{ℕ, ◌-◌, ◌^◌, ◌==◌, ◌&&◌, ◌||◌, Bool, true, false, List, [], ◌∷◌, length}
+use Rattle.std.specs.Prelude.{Option, Some, None, if◌then◌else◌, nat_le}
 use Rattle.std.specs.Result.{result_ok}
 use Rattle.std.specs.List.{list_all}
 use Rattle.std.specs.Char.{is_ascii_digit}
@@ -36,16 +36,3 @@ hex_most = 131072
 -- an even number of digits 0-9, a-f, A-F, at most 131,072 of them, as the bytes that they say
 unfoldable pub hex_of : Word → Option (List ℕ)
 hex_of word = if nat_le (length word) hex_most then result_ok (decode_of word) else None
-
--- hex words in order, or the place of the first that is none; the first of them has this place
-abbrev pub with_front : List ℕ → Result (List (List ℕ)) ℕ → Result (List (List ℕ)) ℕ
-with_front bytes (Ok rest) = Ok (bytes ∷ rest)
-with_front bytes (Err place) = Err place
-
-abbrev pub on_hex : ℕ → Option (List ℕ) → Result (List (List ℕ)) ℕ → Result (List (List ℕ)) ℕ
-on_hex place None rest = Err place
-on_hex place (Some bytes) rest = with_front bytes rest
-
-abbrev pub hex_words : ℕ → List Word → Result (List (List ℕ)) ℕ
-hex_words place [] = Ok []
-hex_words place (word ∷ words) = on_hex place (hex_of word) (hex_words (suc place) words)

@@ -1,10 +1,10 @@
-ghost use Rattle.std.specs.Prelude.{◌≡◌, ◌+◌, ◌<◌, ◌≤◌, ◌^◌, length, map, string_bytes, IfOk, IfSome};
-ghost use Rattle.std.specs.List.{list_all, AllByRecursion};
+ghost use Rattle.std.specs.Prelude.{◌≡◌, ◌<◌, ◌≤◌, ◌^◌, length, IfOk, IfSome};
+ghost use Rattle.std.specs.List.{list_all};
 ghost use Rattle.std.specs.Char.{is_ascii_digit};
-ghost use Rattle.word_lines.specs.Word.{is_decimal, decimal_within, decimal_most, hex_of, hex_words};
+ghost use Rattle.word_lines.specs.Word.{is_decimal, decimal_within, decimal_most, hex_of};
 
 use std::alloc::Global;
-use wire::{Args, Bytes, NoMemory};
+use wire::{Bytes, NoMemory};
 
 /// The greatest number of a decimal word.
 const DECIMAL_MOST: u64 = (1 << 63) - 1;
@@ -64,23 +64,4 @@ pub fn hex_word(alloc: Global, word: &str) -> Result<Option<Bytes>, NoMemory>
         Err(hex::FromHexError::OutOfMemory) => Err(NoMemory),
         Err(_) => Ok(None),
     }
-}
-
-/// The bytes of hex words in order, or the place of the first that is none, where the first word has this place.
-#[tactic(auto, using(crate::proofs::HexWords::short_more))]
-pub fn hex_words(alloc: Global, words: &[String], place: u64) -> Result<Result<Args, u64>, NoMemory>
-    requires { place + length words.now < 2 ^ 64 }
-    ensures reads { IfOk result (λ read. read ≡ hex_words place (map string_bytes words.now)) }
-    ensures number { IfOk result (λ read. IfOk read (λ args. length args ≡ length words.now)) }
-    ensures short { IfOk result
-        (λ read. IfOk read (λ args. AllByRecursion (λ bytes. length bytes ≤ 65536) args)) }
-{
-    let mut args = Args::new(alloc);
-    for (k, word) in words.iter().enumerate() {
-        match hex_word(alloc, word.as_str())? {
-            Some(bytes) => args.push(bytes)?,
-            None => return Ok(Err(place + k as u64)),
-        }
-    }
-    Ok(Ok(args))
 }

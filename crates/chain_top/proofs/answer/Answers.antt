@@ -1,35 +1,42 @@
-use Rattle.std.proofs.Common.{[], map}
+use Rattle.std.proofs.Common.{[], map, ap, sym, ◌∙◌}
 use Rattle.std.specs.Prelude.{string_bytes}
 use Rattle.std.specs.declared.alloc.Global.{Global}
 use Rattle.replies.specs.Plan.{stop_of}
-use Rattle.command_words.specs.Seen.{seen}
-use Rattle.chain_top.proofs.Concluding.{concludes-command, concludes-usage, as-answers}
+use Rattle.command_words.specs.Seen.{seen, seen_command}
+use Rattle.chain_top.proofs.Calling.{concludes-command, concludes-usage, concludes-none, called}
 use Rattle.chain_top.proofs.answer.Goals as goal
 
-pub returns-in-Some-clause-place : goal.returns-in-Some-clause-place
-returns-in-Some-clause-place g c =
+pub returns-in-Ok-Some-clause-place : goal.returns-in-Ok-Some-clause-place
+returns-in-Ok-Some-clause-place g c =
     let hash = g.H.IdHash.hash_of c.args.hash.now in
     let check = g.C.SigCheck.good_of c.args.sigs.now in
     let words = map (string_bytes {Z = Global}) c.args.words.now in
-    (concludes-command hash check words [] (g.O.Outside.io c.args.out.now) (g.O.Outside.io c.close.new.out) c.close.result c.steps_join.ensures (g.O.Outside.io c.run.new.out) (seen c.in-Some.command) (stop_of c.run.result) c.in-Some.ensures.reads c.run.ensures c.close.ensures).ended.place
+    let is = ap seen_command (sym c.in-Ok-Some.field-0-is) ∙ c.in-Ok-Some.ensures.reads in
+    (concludes-command c.known.ensures hash check words [] (g.O.Outside.io c.args.out.now) (g.O.Outside.io c.obey.new.out) (g.O.Outside.io c.close.new.out) c.close.result (seen c.in-Ok-Some.command) (stop_of c.obey.result) is (g.met.O.Outside.contents_are_bytes c.args.out.now) c.obey.ensures c.close.ensures).ended.place
 
-pub returns-in-Some-clause-answers : goal.returns-in-Some-clause-answers
-returns-in-Some-clause-answers g c =
+pub returns-in-Ok-Some-clause-call : goal.returns-in-Ok-Some-clause-call
+returns-in-Ok-Some-clause-call g c =
     let hash = g.H.IdHash.hash_of c.args.hash.now in
     let check = g.C.SigCheck.good_of c.args.sigs.now in
     let words = map (string_bytes {Z = Global}) c.args.words.now in
-    as-answers _ _ _ _ (concludes-command hash check words [] (g.O.Outside.io c.args.out.now) (g.O.Outside.io c.close.new.out) c.close.result c.steps_join.ensures (g.O.Outside.io c.run.new.out) (seen c.in-Some.command) (stop_of c.run.result) c.in-Some.ensures.reads c.run.ensures c.close.ensures)
+    let is = ap seen_command (sym c.in-Ok-Some.field-0-is) ∙ c.in-Ok-Some.ensures.reads in
+    called c.known.ensures c.one_reply.ensures c.growing_ledgers.ensures hash check words (g.O.Outside.io c.args.out.now) (g.O.Outside.io c.close.new.out) c.close.result
+    (concludes-command c.known.ensures hash check words [] (g.O.Outside.io c.args.out.now) (g.O.Outside.io c.obey.new.out) (g.O.Outside.io c.close.new.out) c.close.result (seen c.in-Ok-Some.command) (stop_of c.obey.result) is (g.met.O.Outside.contents_are_bytes c.args.out.now) c.obey.ensures c.close.ensures)
 
-pub returns-in-None-clause-place : goal.returns-in-None-clause-place
-returns-in-None-clause-place g c =
+pub returns-in-Ok-None-clause-call : goal.returns-in-Ok-None-clause-call
+returns-in-Ok-None-clause-call g c =
     let hash = g.H.IdHash.hash_of c.args.hash.now in
     let check = g.C.SigCheck.good_of c.args.sigs.now in
     let words = map (string_bytes {Z = Global}) c.args.words.now in
-    (concludes-usage hash check words [] (g.O.Outside.io c.args.out.now) (g.O.Outside.io c.usage.new.out) c.usage.result c.in-None.ensures.reads c.usage.ensures).ended.place
+    let is = ap seen_command (sym c.in-Ok-None.field-0-is) ∙ c.in-Ok-None.ensures.reads in
+    called c.known.ensures c.one_reply.ensures c.growing_ledgers.ensures hash check words (g.O.Outside.io c.args.out.now) (g.O.Outside.io c.usage.new.out) c.usage.result
+    (concludes-usage c.known.ensures hash check words [] (g.O.Outside.io c.args.out.now) (g.O.Outside.io c.usage.new.out) c.usage.result is c.usage.ensures)
 
-pub returns-in-None-clause-answers : goal.returns-in-None-clause-answers
-returns-in-None-clause-answers g c =
+pub returns-in-Err-clause-call : goal.returns-in-Err-clause-call
+returns-in-Err-clause-call g c =
     let hash = g.H.IdHash.hash_of c.args.hash.now in
     let check = g.C.SigCheck.good_of c.args.sigs.now in
     let words = map (string_bytes {Z = Global}) c.args.words.now in
-    as-answers _ _ _ _ (concludes-usage hash check words [] (g.O.Outside.io c.args.out.now) (g.O.Outside.io c.usage.new.out) c.usage.result c.in-None.ensures.reads c.usage.ensures)
+    let a = g.O.Outside.io c.args.out.now in
+    called c.known.ensures c.one_reply.ensures c.growing_ledgers.ensures hash check words a a c.out_of_memory.result
+    (concludes-none c.known.ensures hash check words [] a c.out_of_memory.result (g.met.O.Outside.contents_are_bytes c.args.out.now) (λ reply. c.out_of_memory.ensures reply a))

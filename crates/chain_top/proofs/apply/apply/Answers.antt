@@ -1,23 +1,26 @@
-use Rattle.std.proofs.Common.{List, ℕ, subst}
-use Rattle.replies.specs.Asking.{most_bytes}
-use Rattle.replies.specs.Plan.{stop_of, Follows}
-use Rattle.chain_top.specs.Reply.{ledger_model}
-use Rattle.chain_top.proofs.Asking.{asked-bytes, asked-then, asked-stopped}
-use Rattle.chain_top.proofs.Models.{ledger-model}
+use Rattle.std.proofs.Common.{rules, ◌≡◌, ℕ, Ok, inl, inr, refl, length, subst}
+use Rattle.replies.specs.Asking.{fit_together}
+use Rattle.replies.specs.Recipe.{gives}
+use Rattle.replies.specs.Runs.{Refuses}
+use Rattle.std.specs.Vec.Iter.{into_iter_items}
+use Rattle.replies.specs.Recipes.{passed_on}
+use Rattle.chain_top.proofs.Offering.{offers-run}
 use Rattle.chain_top.proofs.apply.apply.Goals as goal
 
-pub returns-in-Err : goal.returns-in-Err
-returns-in-Err g c =
+pub returns-in_err-offered : goal.returns-in_err-offered
+returns-in_err-offered g c = inr (_, _, c.in_ok-held.ensures.read, inl (_, c.in_err-offered.ensures.read, passed_on _ _ c.from_residual-in_err-offered.ensures.1))
+
+pub returns-in_err-fit_together : goal.returns-in_err-fit_together
+returns-in_err-fit_together g c =
+    let size : c.len.result ≡ length c.in_ok-offered.offered.bytes.items = search rules in
+    let bad = subst (λ (n : ℕ). Refuses (gives (fit_together 2 c.in_ok-held.held.size n)) c.in_err-fit_together.field-0.0) size c.in_err-fit_together.ensures in
+    inr (_, _, c.in_ok-held.ensures.read, inr (_, _, c.in_ok-offered.ensures.read, inl (_, bad, refl, passed_on _ _ c.from_residual-in_err-fit_together.ensures.1)))
+
+pub returns : goal.returns
+returns g c =
     let hash = g.H.IdHash.hash_of c.args.hash.now in
     let check = g.C.SigCheck.good_of c.args.sigs.now in
-    asked-stopped c.known.ensures.plans c.args.ledger.now most_bytes 1 (ledger_model hash check c.args.ledger.now c.args.offers.now) _ _ _ (ledger-model c.known.ensures hash check c.args.ledger.now c.args.offers.now) (g.met.O.Outside.contents_are_bytes c.args.out.now) c.in-Err.ensures.asked
-
-pub returns-in-Ok : goal.returns-in-Ok
-returns-in-Ok g c =
-    let hash = g.H.IdHash.hash_of c.args.hash.now in
-    let check = g.C.SigCheck.good_of c.args.sigs.now in
-    let rest = subst (λ (bs : List ℕ). Follows (ledger_model hash check c.args.ledger.now c.args.offers.now bs) (g.O.Outside.io c.ask.new.out) (g.O.Outside.io c.apply_to.new.out) c.apply_to.result) c.as_slice.ensures.value c.apply_to.ensures in
-    asked-then c.known.ensures.plans c.args.ledger.now most_bytes 1 (ledger_model hash check c.args.ledger.now c.args.offers.now) _ _ _ c.in-Ok.held (stop_of c.apply_to.result) c.in-Ok.ensures.asked rest
-
-pub apply_to-requires-clause-are : goal.apply_to-requires-clause-are
-apply_to-requires-clause-are g c = rw c.as_slice.ensures.value (asked-bytes _ _ _ _ _ c.in-Ok.held c.in-Ok.ensures.asked)
+    let size : c.len.result ≡ length c.in_ok-offered.offered.bytes.items = search rules in
+    let fits = subst (λ (n : ℕ). gives (fit_together 2 c.in_ok-held.held.size n) (Ok tt)) size c.in_ok-fit_together.ensures in
+    let runs = offers-run hash check c.args.ledger.now c.in_ok-held.held.ledger.blocks (into_iter_items c.in_ok-offered.offered.blocks) _ _ c.offer_all.result c.offer_all.ensures in
+    inr (_, _, c.in_ok-held.ensures.read, inr (_, _, c.in_ok-offered.ensures.read, inr (tt, fits, runs)))

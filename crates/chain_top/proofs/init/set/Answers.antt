@@ -1,4 +1,4 @@
-use Rattle.chain_top.proofs.Begun.{none_begun}
+use Rattle.replies.specs.Fronts.{none_begun}
 use Rattle.chain_top.proofs.init.set.Goals as goal
 
 pub returns-in-Err : goal.returns-in-Err

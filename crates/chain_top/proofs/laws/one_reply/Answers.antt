@@ -1,4 +1,4 @@
-use Rattle.chain_top.proofs.Wholly.{reply_laws}
+use Rattle.chain_top.proofs.Replies.{reply_laws}
 use Rattle.chain_top.proofs.laws.one_reply.Goals as goal
 
 pub returns : goal.returns

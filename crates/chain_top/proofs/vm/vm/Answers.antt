@@ -1,20 +1,14 @@
-use Rattle.std.proofs.Common.{[], ◌∷◌, map, refl}
-use Rattle.std.specs.Prelude.{string_bytes}
-use Rattle.std.specs.declared.alloc.Global.{Global}
-use Rattle.outside.specs.Steps.{Print}
-use Rattle.replies.specs.Plan.{stop_of, done}
-use Rattle.chain_top.specs.Reply.{VmLine}
-use Rattle.chain_top.proofs.Asking.{follows-known, checked-then, checked-stopped}
-use Rattle.chain_top.proofs.Models.{vm-model}
+use Rattle.std.proofs.Common.{List, ℕ, inr, subst}
+use Rattle.replies.specs.Plan.{stop_of}
+use Rattle.replies.specs.Recipe.{owe}
+use Rattle.replies.specs.Runs.{OwnRuns}
+use Rattle.chain_top.specs.Commands.{VerdictOwed}
 use Rattle.chain_top.proofs.vm.vm.Goals as goal
 
-pub returns-in-Err : goal.returns-in-Err
-returns-in-Err g c =
+pub returns : goal.returns
+returns g c =
     let check = g.C.SigCheck.good_of c.args.sigs.now in
-    let args = map string_bytes c.args.args.now in
-    checked-stopped (VmLine check c.args.limit c.args.program.now args) _ (string_bytes {Z = Global}) _ _ (vm-model c.known.ensures check c.args.limit c.args.program.now args).some_for (g.met.O.Outside.contents_are_bytes c.args.out.now) c.in-Err.ensures
-
-pub returns-in-Ok : goal.returns-in-Ok
-returns-in-Ok g c =
-    checked-then (VmLine (g.C.SigCheck.good_of c.args.sigs.now) c.args.limit c.args.program.now (map string_bytes c.args.args.now)) _ _ _ (string_bytes c.in-Ok.line) (stop_of c.say.result) c.in-Ok.ensures
-    (follows-known (done (Print (string_bytes c.in-Ok.line) ∷ [])) _ _ (stop_of c.say.result) refl (rw c.as_bytes.ensures.value at c.say.ensures))
+    let a = g.O.Outside.io c.args.out.now in
+    let e = g.O.Outside.io c.report.new.out in
+    let runs = subst (λ (code : List ℕ). OwnRuns (owe (VerdictOwed check c.args.limit code c.in_ok-args.args)) a e (stop_of c.report.result)) c.as_slice.ensures c.report.ensures in
+    inr (_, c.in_ok-program.ensures.reads, inr (_, c.in_ok-args.ensures.reads, runs))

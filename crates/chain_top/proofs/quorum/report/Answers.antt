@@ -1,0 +1,5 @@
+use Rattle.replies.specs.Fronts.{none_begun}
+use Rattle.chain_top.proofs.quorum.report.Goals as goal
+
+pub returns-in-Err : goal.returns-in-Err
+returns-in-Err g c = none_begun _ _
