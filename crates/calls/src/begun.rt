@@ -1,4 +1,4 @@
-// The reads and writes on files that were begun, a line each.
+//! The reads and writes on files that were begun, a line each.
 use crate::words::{hex_word, name_word};
 use anyhow::Result;
 use outside::{BegunKind, BegunRead, BegunWrite, MemFiles};

@@ -1,4 +1,4 @@
-// A case of a script: its files and its sink, and the calls over them.
+//! A case of a script: its files and its sink, and the calls over them.
 use crate::begun::print_begun;
 use crate::words::hex_word;
 use anyhow::{Context, Result, ensure};

@@ -1,4 +1,4 @@
-// The words of a script's lines.
+//! The words of a script's lines.
 use anyhow::{Result, bail, ensure};
 use std::alloc::Global;
 

@@ -1,7 +1,6 @@
 -- What a call did, from what its command did and how it ended.
 use Rattle.std.proofs.Common.{◌≡◌, ◌⊎◌, ℕ, List, [], Option, Some, None, inl, inr, refl, sym, ◌∙◌, ap, subst}
-use Rattle.vm_run.specs.Row.{Check}
-use Rattle.ledger_core.specs.Refusal.{Hash}
+use Rattle.keyed.specs.Functions.{Check, Hash}
 use Rattle.outside.specs.Fault.{Rose}
 use Rattle.outside.specs.Files.{Content}
 use Rattle.outside.specs.Files as files

@@ -6,8 +6,7 @@ use Rattle.std.proofs.lemmas.Bool.{MatchBool-at_true, cases_eq}
 use Rattle.std.proofs.lemmas.List.{append-nil}
 use Rattle.std.proofs.lemmas.List.Elements.{All-nil, All-cons}
 use Rattle.data_model.specs.declared.block.Block.{Block}
-use Rattle.vm_run.specs.Row.{Check}
-use Rattle.ledger_core.specs.Refusal.{Hash}
+use Rattle.keyed.specs.Functions.{Check, Hash}
 use Rattle.outside.specs.Files.{Content, Write, Append, bytes_in, write_of, IsAppended}
 use Rattle.outside.specs.Crash.{State, StepAt, Leads, MayLeave, cut_short, IsMoment}
 use Rattle.outside.specs.CrashLaws.{MomentsJoin, OthersStay, StartsKept}
@@ -36,7 +35,7 @@ none_begun (v ∷ seen) (inl (rest, is)) = absurd (no_write v (seen ++ rest) is)
 none_begun (v ∷ seen) (inr ([], w, rest, is, cut)) = absurd (no_write w rest is)
 none_begun (v ∷ seen) (inr (b ∷ before, w, rest, is, cut)) = absurd (no_write b (before ++ w ∷ rest) is)
 
--- a moment of a run with one write more in front: before that write, in it, or behind it
+-- a moment of a run with one write more in front: before that write, in it, or after it
 abbrev Front : Write → List Write → List Write → Type 0
 Front w ws seen = (seen ≡ []) ⊎ ((seen ≡ cut_short w ∷ []) ⊎ ((later : List Write) × IsMoment ws later × (seen ≡ w ∷ later)))
 

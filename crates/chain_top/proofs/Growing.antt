@@ -7,10 +7,10 @@ use Rattle.std.proofs.lemmas.Slice.Eq.{bytes_eq-Decides}
 use Rattle.wire.specs.Spelling.{AreBytes}
 use Rattle.data_model.specs.declared.block.Block.{Block}
 use Rattle.entry_ids.specs.Entry.{header_id}
-use Rattle.vm_run.specs.Row.{Check}
+use Rattle.keyed.specs.Functions.{Check}
 use Rattle.ledger_core.specs.declared.refusal.BlockRefusal.{BlockRefusal}
 use Rattle.ledger_core.specs.Chain.{Chain, Accepted}
-use Rattle.ledger_core.specs.Refusal.{Hash}
+use Rattle.keyed.specs.Functions.{Hash}
 use Rattle.outside.specs.Files.{Content, Append, bytes_in, write_of, ReadsAt}
 use Rattle.outside.specs.Files as files
 use Rattle.outside.specs.Steps.{Step, Read, Print}
@@ -106,14 +106,14 @@ module _ (hash : Hash) (check : Check) (ledger : Word) where
 
 -- both files were read, and the offers answered
 pub record Applied (hash : Hash) (check : Check) (ledger offers : Word) (given : Given) (plan : Plan) : Type 0 where
-  pub held : List ℕ
+  pub ledger_bytes : List ℕ
   pub more : List ℕ
   pub old : List Block
   pub offered : List Block
   pub steps : List Step
-  pub first : given 0 ≡ Some held
-  pub are : AreBytes held
-  pub is_ledger : LoadsAs hash check held (Ok old)
+  pub first : given 0 ≡ Some ledger_bytes
+  pub are : AreBytes ledger_bytes
+  pub is_ledger : LoadsAs hash check ledger_bytes (Ok old)
   pub second : given 1 ≡ Some more
   pub fit : AreBytes more
   pub are_offers : BlocksReadAs more (Ok offered)
@@ -139,13 +139,13 @@ module _ (hash : Hash) (check : Check) (ledger offers : Word) (given : Given) wh
   pub apply_run : (plan : Plan) → model (apply hash check ledger offers) given plan → ApplyRun hash check ledger offers given plan
   apply_run plan (missing is) = ended_at (record { ends = λ e. absurd (not_missing e); nothing = refl })
   apply_run plan (too_long bytes is past) = ended_at (record { ends = λ e. absurd (not_refused _ (sym e)); nothing = refl })
-  apply_run plan (found held rest is short are (is_refused bad)) = ended_at (record { ends = λ e. absurd (not_refused _ (sym e)); nothing = refl })
-  apply_run plan (found held rest is short are (goes_on old good (missing gone))) = ended_at (record { ends = λ e. absurd (not_missing e); nothing = refl })
-  apply_run plan (found held rest is short are (goes_on old good (too_long bytes second past))) = ended_at (record { ends = λ e. absurd (not_refused _ (sym e)); nothing = refl })
-  apply_run plan (found held rest is short are (goes_on old good (found more others second small fit (is_refused bad)))) = ended_at (record { ends = λ e. absurd (not_refused _ (sym e)); nothing = refl })
-  apply_run plan (found held rest is short are (goes_on old good (found more others second small fit (goes_on offered reads (is_refused bad))))) = ended_at (record { ends = λ e. absurd (not_refused _ (sym e)); nothing = refl })
-  apply_run plan (found held rest is short are (goes_on old good (found more others second small fit (goes_on offered reads (goes_on u fits (steps, owe, same)))))) = ran (record {
-    held = held;
+  apply_run plan (found ledger_bytes rest is short are (is_refused bad)) = ended_at (record { ends = λ e. absurd (not_refused _ (sym e)); nothing = refl })
+  apply_run plan (found ledger_bytes rest is short are (goes_on old good (missing gone))) = ended_at (record { ends = λ e. absurd (not_missing e); nothing = refl })
+  apply_run plan (found ledger_bytes rest is short are (goes_on old good (too_long bytes second past))) = ended_at (record { ends = λ e. absurd (not_refused _ (sym e)); nothing = refl })
+  apply_run plan (found ledger_bytes rest is short are (goes_on old good (found more others second small fit (is_refused bad)))) = ended_at (record { ends = λ e. absurd (not_refused _ (sym e)); nothing = refl })
+  apply_run plan (found ledger_bytes rest is short are (goes_on old good (found more others second small fit (goes_on offered reads (is_refused bad))))) = ended_at (record { ends = λ e. absurd (not_refused _ (sym e)); nothing = refl })
+  apply_run plan (found ledger_bytes rest is short are (goes_on old good (found more others second small fit (goes_on offered reads (goes_on u fits (steps, owe, same)))))) = ran (record {
+    ledger_bytes = ledger_bytes;
     more = more;
     old = old.blocks;
     offered = offered.blocks;
@@ -166,8 +166,8 @@ held_reads None bs h = absurd h
 held_reads (Some bytes) bs h = (h.0, h.1)
 
 module _ (laws : Known) (hash : Hash) (check : Check) where
-  ledger_reads : (held : List ℕ) (old : List Block) → LoadsAs hash check held (Ok old) → BlocksReadAs held (Ok old) × Chain hash check old
-  ledger_reads held old (chain reads front) = (reads, front)
+  ledger_reads : (ledger_bytes : List ℕ) (old : List Block) → LoadsAs hash check ledger_bytes (Ok old) → BlocksReadAs ledger_bytes (Ok old) × Chain hash check old
+  ledger_reads ledger_bytes old (chain reads front) = (reads, front)
 
   -- a status of 0 is that of a plan that is done
   done_end : (steps : List Step) (end : End) → (ended steps end).status ≡ 0 → end ≡ Done
@@ -184,7 +184,7 @@ module _ (laws : Known) (hash : Hash) (check : Check) where
     grows_ran : (given : Given) (plan : Plan) (reply : Reply) → reply ≡ reply_of plan → Applied hash check ledger offers given plan → Grows hash check ledger (given 0) (given 1) reply
     grows_ran given plan reply same run =
         let a = adds hash check ledger run.old run.offered run.steps run.owe in
-        let old = ledger_reads run.held run.old run.is_ledger in
+        let old = ledger_reads run.ledger_bytes run.old run.is_ledger in
         let holds : HoldsBlocks (given 0) run.old = subst (λ (c : Content). HoldsBlocks c run.old) (sym run.first) (run.are, old.0) in
         let others : HoldsBlocks (given 1) run.offered = subst (λ (c : Content). HoldsBlocks c run.offered) (sym run.second) (run.fit, run.are_offers) in
         let there = held_reads (given 0) run.old holds in

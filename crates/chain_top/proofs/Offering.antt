@@ -4,10 +4,11 @@ use Rattle.std.specs.Prelude.{Some, OnOk, IsErrAnd}
 use Rattle.std.proofs.lemmas.List.{length-append}
 use Rattle.data_model.specs.declared.block.Block.{Block}
 use Rattle.entry_ids.specs.Entry.{header_id}
-use Rattle.vm_run.specs.Row.{Check}
+use Rattle.keyed.specs.Functions.{Check}
 use Rattle.ledger_core.specs.declared.refusal.BlockRefusal.{BlockRefusal}
 use Rattle.ledger_core.specs.Chain.{Chain}
-use Rattle.ledger_core.specs.Refusal.{Hash, Refusal, ValidNext}
+use Rattle.ledger_core.specs.Refusal.{Refusal, ValidNext}
+use Rattle.keyed.specs.Functions.{Hash}
 use Rattle.outside.specs.Files.{Append}
 use Rattle.outside.specs.Steps.{Step, Write, Print}
 use Rattle.outside.specs.World.{Io}

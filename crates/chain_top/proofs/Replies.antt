@@ -1,8 +1,7 @@
 -- The model gives one reply.
 use Rattle.std.proofs.Common.{◌≡◌, ◌≢◌, ℕ, List, Option, Some, None, refl, sym, ◌∙◌, ap, subst, arith}
 use Rattle.std.specs.Prelude.{◌↔◌}
-use Rattle.vm_run.specs.Row.{Check}
-use Rattle.ledger_core.specs.Refusal.{Hash}
+use Rattle.keyed.specs.Functions.{Check, Hash}
 use Rattle.outside.specs.Bytes.{HoldsBytes}
 use Rattle.outside.specs.Files.{Content}
 use Rattle.outside.specs.Files as files

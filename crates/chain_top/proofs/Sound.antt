@@ -4,14 +4,13 @@ use Rattle.std.proofs.lemmas.List.{length-append}
 use Rattle.data_model.specs.declared.block.Block.{Block}
 use Rattle.data_model.specs.Files.{BlocksReadAs}
 use Rattle.vm_num.specs.Item.{Item}
-use Rattle.vm_run.specs.Row.{Check}
+use Rattle.keyed.specs.Functions.{Check}
 use Rattle.vm_run.specs.declared.context.Context.TheVariants.{Nothing}
 use Rattle.vm_run.specs.declared.verdict.Verdict.{Verdict}
-use Rattle.wire.specs.Files.{FileFault}
 use Rattle.ledger_core.specs.declared.refusal.BlockRefusal.{BlockRefusal}
-use Rattle.ledger_core.specs.Refusal.{Hash, Refusal}
+use Rattle.ledger_core.specs.Refusal.{Refusal}
+use Rattle.keyed.specs.Functions.{Hash}
 use Rattle.ledger_file.specs.Loading.{LoadsAs, chain}
-use Rattle.ledger_file.specs.declared.fault.LoadFault.{LoadFault}
 use Rattle.outside.specs.Steps.{Step, Print}
 use Rattle.command_words.specs.Command.{Command, Vm, Init, Apply, Quorum}
 use Rattle.command_lines.specs.Line.{refused_block, verdict_line}
@@ -132,9 +131,9 @@ sound laws hash check choice (Vm limit program args) = (gives_check _, λ code i
 sound laws hash check choice (Init ledger time program) = (gives_check _, λ code is. known_owed _ refl)
 sound laws hash check choice (Apply ledger offers) = (
   ledger_format_sound laws hash check,
-  λ bytes held are reads. (
+  λ bytes file are reads. (
     blocks_format_sound laws,
-    λ more offered fit found. (gives_check _, λ u fits. offers_owed laws hash check ledger held.blocks offered.blocks (ledger_some laws hash check 1 bytes held reads)),
+    λ more offered fit found. (gives_check _, λ u fits. offers_owed laws hash check ledger file.blocks offered.blocks (ledger_some laws hash check 1 bytes file reads)),
   ),
 )
 sound laws hash check choice (Quorum m keys) = (gives_check _, λ items is. known_owed _ refl)

@@ -1,7 +1,6 @@
 -- What a call of the program did, from what its files and its sink told before it to what they tell after it.
 use Rattle.std.specs.Prelude.{◌≡◌, ◌⊎◌, ◌↔◌, ℕ, List, Some, None}
-use Rattle.ledger_core.specs.Refusal.{Hash}
-use Rattle.vm_run.specs.Row.{Check}
+use Rattle.keyed.specs.Functions.{Hash, Check}
 use Rattle.outside.specs.Files.{Content}
 use Rattle.outside.specs.World.{World}
 use Rattle.command_words.specs.Command.{Command, Apply, command_of}

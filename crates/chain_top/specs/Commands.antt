@@ -3,11 +3,11 @@ use Rattle.std.specs.Prelude.{◌≡◌, ℕ, List, [], ◌∷◌}
 use Rattle.data_model.specs.declared.block.Block.{Block}
 use Rattle.data_model.specs.Files.{block_frame}
 use Rattle.entry_ids.specs.Entry.{header_id}
-use Rattle.ledger_core.specs.Refusal.{Hash}
+use Rattle.keyed.specs.Functions.{Hash}
 use Rattle.outside.specs.Files.{Replace}
 use Rattle.outside.specs.Steps.{Step, Write, Print}
 use Rattle.vm_num.specs.Item.{Item}
-use Rattle.vm_run.specs.Row.{Check}
+use Rattle.keyed.specs.Functions.{Check}
 use Rattle.vm_run.specs.declared.context.Context.TheVariants.{Nothing}
 use Rattle.vm_run.specs.declared.verdict.Verdict.{Verdict}
 use Rattle.vm_run.specs.Verdict.{HasVerdict}
@@ -51,10 +51,10 @@ init hash ledger time program =
 abbrev pub apply : Hash → Check → Word → Word → Recipe
 apply hash check ledger offers =
     read (ledger_file hash check ledger 1)
-    (λ held. read (blocks_file offers 2)
+    (λ file. read (blocks_file offers 2)
     (λ offered. own
-    (checked (gives (fit_together 2 held.size offered.size))
-    (λ fits. owe (OffersOwe hash check ledger held.blocks offered.blocks)))))
+    (checked (gives (fit_together 2 file.size offered.size))
+    (λ fits. owe (OffersOwe hash check ledger file.blocks offered.blocks)))))
 
 -- the program of a quorum is printed
 abbrev pub quorum_steps : List (List ℕ) → ℕ → List Step

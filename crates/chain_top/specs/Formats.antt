@@ -2,9 +2,9 @@
 use Rattle.std.specs.Prelude.{◌≡◌, ℕ, List, [], length, Result, Ok, Err}
 use Rattle.data_model.specs.declared.block.Block.{Block}
 use Rattle.data_model.specs.Files.{BlocksReadAs}
-use Rattle.vm_run.specs.Row.{Check}
+use Rattle.keyed.specs.Functions.{Check}
 use Rattle.wire.specs.Files.{FileFault}
-use Rattle.ledger_core.specs.Refusal.{Hash}
+use Rattle.keyed.specs.Functions.{Hash}
 use Rattle.ledger_file.specs.Loading.{LoadsAs}
 use Rattle.ledger_file.specs.declared.fault.LoadFault.{LoadFault}
 use Rattle.ledger_file.specs.declared.fault.LoadFault.TheVariants as faults

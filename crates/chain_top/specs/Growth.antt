@@ -4,7 +4,7 @@ use Rattle.std.specs.Prelude.{IsSomeAnd, bytes_eq}
 use Rattle.wire.specs.Spelling.{AreBytes}
 use Rattle.data_model.specs.declared.block.Block.{Block}
 use Rattle.entry_ids.specs.Entry.{header_id}
-use Rattle.vm_run.specs.Row.{Check}
+use Rattle.keyed.specs.Functions.{Check}
 use Rattle.ledger_core.specs.declared.refusal.BlockRefusal.{BlockRefusal}
 use Rattle.ledger_core.specs.Chain.{Chain, Accepted}
 use Rattle.outside.specs.Files.{Content, Write, Append, bytes_in, write_of}
@@ -16,7 +16,7 @@ use Rattle.replies.specs.Steps.{Line, lines_of, reads_of, writes_of}
 use Rattle.data_model.specs.Files.{BlocksReadAs, block_frame}
 use Rattle.ledger_file.specs.Files.{file_spelling}
 use Rattle.command_lines.specs.Line.{accepted_line, refused_block}
-use Rattle.ledger_core.specs.Refusal.{Hash}
+use Rattle.keyed.specs.Functions.{Hash}
 use Rattle.replies.specs.Reply.{Reply, reply_of}
 use Rattle.replies.specs.Recipe.{model}
 use Rattle.chain_top.specs.Commands.{apply}
@@ -62,7 +62,7 @@ pub record Grows (hash : Hash) (check : Check) (ledger : Word) (first second : C
   pub grown : HoldsBlocks (Some (bytes_in first ++ file_spelling added)) (old ++ added)
   pub stays_chain : Chain hash check (old ++ added)
 
--- The ledger's file has then these frames behind what it had, and every other file is as it was.
+-- The ledger's file has then these frames after what it had, and every other file is as it was.
 abbrev pub EndsGrown : Word → List Block → (List ℕ → Content) → (List ℕ → Content) → Type 0
 EndsGrown ledger added before after =
     (bytes_in (after ledger) ≡ bytes_in (before ledger) ++ file_spelling added)
@@ -148,7 +148,7 @@ pub record GrowthLaws (hash : Hash) (check : Check) : Type 0 where
       → IsSomeAnd after (EndsGrown ledger added before)
 
 pub record CrashLaws (hash : Hash) (check : Check) : Type 0 where
-  -- a crash in a run whose files are read leaves a front of what the run would write
+  -- a crash in a run whose files are read leaves a prefix of what the run would write
   pub torn :
       (ledger offers : Word) (before left : List ℕ → Content) (reply : Reply) (begun seen : List Write)
       → ApplyCrash hash check ledger offers before reply begun seen left

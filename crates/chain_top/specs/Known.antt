@@ -1,12 +1,12 @@
--- What the crates below say of all values, together.
+-- What the crates below say of all values, together. Only contracts of private functions name it.
 use Rattle.std.specs.Prelude.{◌≡◌, ℕ, List}
 use Rattle.data_model.specs.Files.{BlockFileLaws}
 use Rattle.ledger_core.specs.Laws.{RefusalLaws, ChainLaws}
-use Rattle.ledger_core.specs.Roots.{Hash}
+use Rattle.keyed.specs.Functions.{Hash}
 use Rattle.ledger_file.specs.Laws.{FewBlocks, LoadLaws}
 use Rattle.replies.specs.Laws.{StepLaws, TellLaws}
 use Rattle.vm_num.specs.Item.{Item}
-use Rattle.vm_run.specs.Row.{Check}
+use Rattle.keyed.specs.Functions.{Check}
 use Rattle.vm_run.specs.declared.context.Context.{Context}
 use Rattle.vm_run.specs.Verdict.{HasVerdict}
 use Rattle.vm_run.specs.declared.verdict.Verdict.{Verdict}

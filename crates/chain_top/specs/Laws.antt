@@ -1,7 +1,6 @@
 -- Laws of the model.
 use Rattle.std.specs.Prelude.{◌≡◌, ◌↔◌, ℕ, List, None}
-use Rattle.vm_run.specs.Row.{Check}
-use Rattle.ledger_core.specs.Refusal.{Hash}
+use Rattle.keyed.specs.Functions.{Check, Hash}
 use Rattle.outside.specs.Bytes.{HoldsBytes}
 use Rattle.outside.specs.Files.{Content}
 use Rattle.command_words.specs.Command.{command_of}

@@ -1,8 +1,7 @@
--- What the functions answer that offer blocks, against the model.
+-- What the functions answer that offer blocks, against the model. Only contracts of private functions name it.
 use Rattle.std.specs.Prelude.{◌≡◌, List, OnOk, Result}
 use Rattle.data_model.specs.declared.block.Block.{Block}
-use Rattle.vm_run.specs.Row.{Check}
-use Rattle.ledger_core.specs.Refusal.{Hash}
+use Rattle.keyed.specs.Functions.{Check, Hash}
 use Rattle.outside.specs.Steps.{Step}
 use Rattle.outside.specs.World.{Io}
 use Rattle.chain_top.specs.Offers.{OfferOwes, OffersOwe}

@@ -2,9 +2,10 @@
 use Rattle.std.specs.Prelude.{List, [], ◌∷◌, ◌++◌, Some}
 use Rattle.data_model.specs.declared.block.Block.{Block}
 use Rattle.entry_ids.specs.Entry.{header_id}
-use Rattle.vm_run.specs.Row.{Check}
+use Rattle.keyed.specs.Functions.{Check}
 use Rattle.ledger_core.specs.declared.refusal.BlockRefusal.{BlockRefusal}
-use Rattle.ledger_core.specs.Refusal.{Hash, Refusal, ValidNext}
+use Rattle.ledger_core.specs.Refusal.{Refusal, ValidNext}
+use Rattle.keyed.specs.Functions.{Hash}
 use Rattle.outside.specs.Files.{Append}
 use Rattle.outside.specs.Steps.{Step, Write, Print}
 use Rattle.data_model.specs.Files.{block_frame}

@@ -1,4 +1,4 @@
--- What the code holds of files that were read, as their formats say it.
+-- What the code holds of files that were read, as their formats say it. Only contracts of private functions name it.
 use Rattle.std.specs.Prelude.{◌≡◌, ℕ, length}
 use Rattle.std.specs.Vec.Iter.{into_iter_items}
 use Rattle.ledger_file.specs.declared.fault.LoadFault.{LoadFault}

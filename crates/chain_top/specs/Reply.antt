@@ -1,8 +1,8 @@
 -- What a call of the program answers: the model.
 use Rattle.std.specs.Prelude.{◌≡◌, ℕ, List, Option, Some, None}
-use Rattle.ledger_core.specs.Refusal.{Hash}
+use Rattle.keyed.specs.Functions.{Hash}
 use Rattle.outside.specs.Files.{Content}
-use Rattle.vm_run.specs.Row.{Check}
+use Rattle.keyed.specs.Functions.{Check}
 use Rattle.command_words.specs.Command.{Command, command_of}
 use Rattle.replies.specs.Plan.{Plan, Given, GivenBy}
 use Rattle.replies.specs.Recipe.{model}

@@ -1,4 +1,4 @@
-// The command `apply`.
+//! The command `apply`.
 ghost use Rattle.std.specs.Prelude.{◌≡◌, ◌+◌, ◌<◌, ◌^◌, [], ◌∷◌, length};
 ghost use Rattle.std.specs.Vec.Iter.{into_iter_items};
 ghost use Rattle.outside.specs.Files.{Append};
@@ -23,7 +23,6 @@ use outside::Outside;
 use replies::{Stop, fit_together, say, written};
 use std::alloc::Global;
 use std::vec::IntoIter;
-use wire::NoMemory;
 
 /// Offers the blocks of one file to the ledger of another, in order, and reports each.
 pub fn apply<O: Outside, H: IdHash, C: SigCheck>(
@@ -37,10 +36,10 @@ pub fn apply<O: Outside, H: IdHash, C: SigCheck>(
     ensures { Obeys (apply (H.hash_of hash.now) (C.good_of sigs.now) ledger.now offers.now)
         (O.io out.old) (O.io out.new) result }
 {
-    let mut held = read_ledger(alloc, out, ledger, 1, hash, sigs)?;
+    let mut file = read_ledger(alloc, out, ledger, 1, hash, sigs)?;
     let offered = read_blocks(alloc, out, offers, 2)?;
-    fit_together(alloc, 2, held.size, offered.bytes.len() as u64)?;
-    offer_all(alloc, ledger, &mut held.ledger, offered, out, hash, sigs)
+    fit_together(alloc, 2, file.size, offered.bytes.len() as u64)?;
+    offer_all(alloc, ledger, &mut file.ledger, offered, out, hash, sigs)
 }
 
 // Offers the blocks of a file in order, and reports each.
@@ -139,33 +138,15 @@ fn accept<O: Outside>(
         (done (Write Append name.now frame.now ∷ Print (accepted_line added.now.height added.now.id) ∷ []))
         (O.io out.old) (O.io out.new) result }
 {
-    match accepted_line(alloc, added.height, &added.id) {
-        Ok(line) => append_and_say(name, frame, line.as_bytes(), out),
-        Err(NoMemory) => Err(Stop::NoMemory),
-    }
-}
-
-// Adds a frame at the end of a ledger, and where that was done prints a line.
-fn append_and_say<O: Outside>(
-    name: &str,
-    frame: &[u8],
-    line: &[u8],
-    out: &mut O,
-) -> Result<(), Stop>
-    ensures { Does (done (Write Append name.now frame.now ∷ Print line.now ∷ [])) (O.io out.old) (O.io out.new) result }
-{
-    match written(append_frame(out, name, frame)) {
-        Ok(()) => say(out, line),
-        Err(stop) => Err(stop),
-    }
+    let line = accepted_line(alloc, added.height, &added.id)?;
+    written(append_frame(out, name, frame))?;
+    say(out, line.as_bytes())
 }
 
 // Prints the line of a block that was refused.
 fn refuse<O: Outside>(alloc: Global, refusal: &BlockRefusal, out: &mut O) -> Result<(), Stop>
     ensures { Does (done (Print (refused_block refusal.now) ∷ [])) (O.io out.old) (O.io out.new) result }
 {
-    match refused_block(alloc, refusal) {
-        Ok(line) => say(out, line.as_bytes()),
-        Err(NoMemory) => Err(Stop::NoMemory),
-    }
+    let line = refused_block(alloc, refusal)?;
+    say(out, line.as_bytes())
 }

@@ -1,4 +1,4 @@
-// The files that commands read, by their formats.
+//! The files that commands read, by their formats.
 ghost use Rattle.std.specs.Prelude.{◌≡◌, ◌≤◌, length, IfOk};
 ghost use Rattle.std.specs.Vec.Iter.{into_iter_items};
 ghost use Rattle.outside.specs.Bytes.{AreBytes};
@@ -48,10 +48,8 @@ pub fn read_ledger<O: Outside, H: IdHash, C: SigCheck>(
     ensures stands { IfOk result (λ file. StandsFor (H.hash_of hash.now) (C.good_of sigs.now) file.ledger) }
     ensures few { IfOk result (λ file. length file.ledger.blocks ≤ most_bytes) }
 {
-    match ask(alloc, out, name, MOST_BYTES, place) {
-        Ok(bytes) => load_ledger(alloc, place, bytes.as_slice(), hash, sigs),
-        Err(stop) => Err(stop),
-    }
+    let bytes = ask(alloc, out, name, MOST_BYTES, place)?;
+    load_ledger(alloc, place, bytes.as_slice(), hash, sigs)
 }
 
 fn load_ledger<H: IdHash, C: SigCheck>(
@@ -100,10 +98,8 @@ pub fn read_blocks<O: Outside>(
     ensures spelled { IfOk result (λ file. file.bytes.items ≡ file_spelling (into_iter_items file.blocks)) }
     ensures few { IfOk result (λ file. length (into_iter_items file.blocks) ≤ most_bytes) }
 {
-    match ask(alloc, out, name, MOST_BYTES, place) {
-        Ok(bytes) => blocks_of(alloc, place, bytes),
-        Err(stop) => Err(stop),
-    }
+    let bytes = ask(alloc, out, name, MOST_BYTES, place)?;
+    blocks_of(alloc, place, bytes)
 }
 
 fn blocks_of(alloc: Global, place: u64, bytes: Vec<u8>) -> Result<BlocksRead, Stop>

@@ -1,4 +1,4 @@
-// The command `init`.
+//! The command `init`.
 ghost use Rattle.std.specs.Prelude.{◌≡◌, ◌<◌, ◌^◌, [], ◌∷◌, IfOk, string_bytes};
 ghost use Rattle.outside.specs.Files.{Replace};
 ghost use Rattle.outside.specs.Steps.{Write, Print};
@@ -19,7 +19,7 @@ use ledger_file::frame;
 use outside::Outside;
 use replies::{Stop, replace_and_say};
 use std::alloc::Global;
-use wire::{Args, Bytes, NoMemory};
+use wire::{Args, Bytes};
 
 /// Sets the ledger to one frame, the initial block of this time and next program, and reports it.
 pub fn init<O: Outside, H: IdHash>(
@@ -49,39 +49,10 @@ fn start<O: Outside, H: IdHash>(
     requires { IsBlock block.now }
     ensures { Does (done (init_steps (H.hash_of hash.now) ledger.now block.now)) (O.io out.old) (O.io out.new) result }
 {
-    match initial_line(alloc, hash, &block.header) {
-        Ok(line) => set(alloc, ledger, block, line.as_bytes(), out),
-        Err(NoMemory) => Err(Stop::NoMemory),
-    }
-}
-
-// The line of an initial block.
-fn initial_line<H: IdHash>(alloc: Global, hash: &H, header: &Header) -> Result<String, NoMemory>
-    requires { IsHeader header.now }
-    ensures { IfOk result (λ line. string_bytes line ≡ block_line 1 (header_id (H.hash_of hash.now) header.now)) }
-{
-    match block_id(alloc, hash, header) {
-        Ok(id) => block_line(alloc, 1, &id),
-        Err(NoMemory) => Err(NoMemory),
-    }
-}
-
-// Sets the ledger to the frame of this block, and then prints this line.
-fn set<O: Outside>(
-    alloc: Global,
-    ledger: &str,
-    block: &Block,
-    line: &[u8],
-    out: &mut O,
-) -> Result<(), Stop>
-    requires { IsBlock block.now }
-    ensures { Does (done (Write Replace ledger.now (block_frame block.now) ∷ Print line.now ∷ []))
-        (O.io out.old) (O.io out.new) result }
-{
-    match frame(alloc, block) {
-        Ok(frame) => replace_and_say(out, ledger, frame.as_slice(), line),
-        Err(NoMemory) => Err(Stop::NoMemory),
-    }
+    let id = block_id(alloc, hash, &block.header)?;
+    let line = block_line(alloc, 1, &id)?;
+    let frame = frame(alloc, block)?;
+    replace_and_say(out, ledger, frame.as_slice(), line.as_bytes())
 }
 
 fn initial_block<H: IdHash>(alloc: Global, hash: &H, time: u64, code: Bytes) -> Block

@@ -1,4 +1,4 @@
-// The laws of the crates below.
+//! The laws of the crates below.
 ghost use Rattle.chain_top.specs.Known.{Known};
 
 use data_model::block_files;

@@ -1,6 +1,5 @@
 //! Laws of the model, each the contract of a function with nothing to do.
-ghost use Rattle.vm_run.specs.Row.{Check};
-ghost use Rattle.ledger_core.specs.Refusal.{Hash};
+ghost use Rattle.keyed.specs.Functions.{Check, Hash};
 ghost use Rattle.chain_top.specs.Growth.{GrowthLaws, CrashLaws};
 ghost use Rattle.chain_top.specs.Laws.{ReplyLaws};
 

@@ -39,7 +39,7 @@ pub fn chain_main<F: Files, S: Sink, H: IdHash, C: SigCheck>(
     hash: &H,
     sigs: &C,
 ) -> u8
-    ensures { let world = world_at S.held S.faults F.contents F.reads F.writes F.read_faults F.write_faults in
+    ensures { let world = world_at S.output S.faults F.contents F.reads F.writes F.read_faults F.write_faults in
         Call (H.hash_of hash.now) (C.good_of sigs.now) (map string_bytes words.now)
         (world out.old files.old) (world out.new files.new) result }
 {
@@ -55,7 +55,7 @@ fn answer<O: Outside, H: IdHash, C: SigCheck>(
     hash: &H,
     sigs: &C,
 ) -> u8
-    ensures place { (O.io out.new).place ≡ (O.io out.old).place }
+    ensures refs { (O.io out.new).refs ≡ (O.io out.old).refs }
     ensures call { Call (H.hash_of hash.now) (C.good_of sigs.now) (map string_bytes words.now)
         (O.io out.old).world (O.io out.new).world result }
 {

@@ -1,4 +1,4 @@
-// The command `quorum`.
+//! The command `quorum`.
 ghost use Rattle.std.specs.Prelude.{◌≡◌, ◌≤◌, length, map, string_bytes, IfOk};
 ghost use Rattle.command_lines.specs.Line.{program_line};
 ghost use Rattle.replies.specs.Plan.{done, Does};
@@ -11,7 +11,7 @@ use outside::Outside;
 use replies::{Stop, say};
 use std::alloc::Global;
 use vote_book::quorum_program;
-use wire::{Args, NoMemory};
+use wire::Args;
 
 /// Prints the program that a block satisfies whose id is signed for `m` of these keys.
 pub fn quorum<O: Outside>(alloc: Global, m: u64, keys: &[String], out: &mut O) -> Result<(), Stop>
@@ -29,19 +29,7 @@ fn report<O: Outside>(alloc: Global, m: u64, keys: &Args, out: &mut O) -> Result
     requires { IsQuorum keys.now m }
     ensures { Does (done (quorum_steps keys.now m)) (O.io out.old) (O.io out.new) result }
 {
-    match quorum_line(alloc, m, keys) {
-        Ok(line) => say(out, line.as_bytes()),
-        Err(NoMemory) => Err(Stop::NoMemory),
-    }
-}
-
-// The line of the program of a quorum.
-fn quorum_line(alloc: Global, m: u64, keys: &Args) -> Result<String, NoMemory>
-    requires { IsQuorum keys.now m }
-    ensures { IfOk result (λ line. string_bytes line ≡ program_line (quorum_of keys.now m)) }
-{
-    match quorum_program(alloc, keys, m) {
-        Ok(program) => program_line(alloc, program.as_slice()),
-        Err(vote_book::NoMemory) => Err(NoMemory),
-    }
+    let program = quorum_program(alloc, keys, m)?;
+    let line = program_line(alloc, program.as_slice())?;
+    say(out, line.as_bytes())
 }

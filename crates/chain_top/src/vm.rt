@@ -1,4 +1,4 @@
-// The command `vm`.
+//! The command `vm`.
 ghost use Rattle.std.specs.Prelude.{◌+◌, ◌<◌, ◌≤◌, ◌^◌, [], ◌∷◌, length, map, string_bytes};
 ghost use Rattle.command_lines.specs.Line.{verdict_line};
 ghost use Rattle.outside.specs.Steps.{Print};
@@ -14,7 +14,7 @@ use outside::Outside;
 use replies::{Stop, say};
 use std::alloc::Global;
 use vm_run::{Context, Verdict, verify};
-use wire::{Args, NoMemory};
+use wire::Args;
 
 /// Runs a program with no context on its arguments, and prints the verdict.
 pub fn vm<O: Outside, C: SigCheck>(
@@ -49,18 +49,7 @@ fn report<O: Outside, C: SigCheck>(
         (O.io out.old) (O.io out.new) (stop_of result) }
 {
     known();
-    match verify(alloc, &Context::Nothing, sigs, program, args, limit) {
-        Ok(verdict) => report_verdict(alloc, verdict, out),
-        Err(vm_run::NoMemory) => Err(Stop::NoMemory),
-    }
-}
-
-// Prints a verdict.
-fn report_verdict<O: Outside>(alloc: Global, verdict: Verdict, out: &mut O) -> Result<(), Stop>
-    ensures { Does (done (Print (verdict_line verdict) ∷ [])) (O.io out.old) (O.io out.new) result }
-{
-    match verdict_line(alloc, verdict) {
-        Ok(line) => say(out, line.as_bytes()),
-        Err(NoMemory) => Err(Stop::NoMemory),
-    }
+    let verdict = verify(alloc, &Context::Nothing, sigs, program, args, limit)?;
+    let line = verdict_line(alloc, verdict)?;
+    say(out, line.as_bytes())
 }

@@ -14,7 +14,7 @@ use std::io::ErrorKind;
 use std::process::ExitCode;
 use std::{env, io};
 
-/// The status where memory is wanted.
+/// The status where memory runs out.
 const NO_MEMORY: u8 = 5;
 
 /// The status where the runtime gives no words.
@@ -33,7 +33,7 @@ fn main(rt: HostRuntime) -> ExitCode {
 
 // The words of the top call, from what the runtime answered, or the status to end with where there are none.
 fn words_of(alloc: Global, given: io::Result<Args>) -> Result<Vec<String>, u8>
-    // All that were given but the first, the program's name, or want of memory for their list.
+    // All that were given but the first, the program's name, or out of memory for their list.
     ensures words { IfOk given (λ args.
         MatchResult result (λ words. words.items ≡ drop 1 (into_iter_items args)) (λ status. status ≡ 5)) }
     ensures no_memory { IfErr given (λ error. error_kind error ≡ ErrorKind.OutOfMemory → result ≡ Err 5) }

@@ -99,7 +99,7 @@ tx_words (X13 output id) = codes "X13 " ++ (decimal output ++ (codes " " ++ enco
 tx_words (X14 input kind at) =
     codes "X14 " ++ (decimal input ++ (codes " " ++ (failure_name kind ++ (codes " " ++ decimal at))))
 
--- that behind its place in a block
+-- that after its place in a block
 abbrev pub tx_in_block : ℕ → List ℕ → List ℕ
 tx_in_block place words = codes "B8 " ++ (decimal place ++ (codes " " ++ words))
 

@@ -1,4 +1,4 @@
--- The words of a refusal as the code holds them.
+-- The words of a refusal as the code holds them. Only contracts of private functions name it.
 use Rattle.std.specs.Prelude.{ℕ, List, ◌++◌}
 use Rattle.word_lines.specs.Piece.{joined, text_of}
 use Rattle.command_lines.specs.declared.refused.Words.{Words}

@@ -1,4 +1,4 @@
-// Printed lines, each with its newline.
+//! Printed lines, each with its newline.
 ghost use Rattle.std.specs.Prelude.{◌≡◌, IfOk, string_bytes};
 ghost use Rattle.command_lines.specs.Line.{verdict_line, block_line, accepted_line, program_line};
 

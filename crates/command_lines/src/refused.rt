@@ -1,4 +1,4 @@
-// Refusals of words, of files and of blocks.
+//! Refusals of words, of files and of blocks.
 ghost use Rattle.std.specs.Prelude.{◌≡◌, ◌++◌, IfOk, string_bytes};
 ghost use Rattle.command_lines.specs.Line.{refused_hex, refused_file, refused_ledger, refused_block};
 ghost use Rattle.command_lines.specs.Line.{start_words, refusal_words, tx_in_block, tx_words};
@@ -66,11 +66,11 @@ pub fn refused_block(alloc: Global, refusal: &BlockRefusal) -> Result<String, No
     line(alloc, "refused", &[Word(name), a, b, c, d, e])
 }
 
-// The name of a refusal, and at most five values behind it.
+// The name of a refusal, and at most five values after it.
 #[derive(Clone, Copy)]
 struct Words<'a>(&'static str, [Piece<'a>; 5]);
 
-fn two<'a>(name: &'static str, first: Piece<'a>, second: Piece<'a>) -> Words<'a>
+fn two_values<'a>(name: &'static str, first: Piece<'a>, second: Piece<'a>) -> Words<'a>
     ensures { words_of result ≡ name.now ++ (text_of first.entry ++ text_of second.entry) }
 {
     Words(name, [first, second, Nothing, Nothing, Nothing])
@@ -88,7 +88,7 @@ fn start_words(fault: StartFault) -> Words<'static>
         StartFault::RootsNotEmpty => "I5",
         StartFault::NoMemory => "",
     };
-    two(name, Nothing, Nothing)
+    two_values(name, Nothing, Nothing)
 }
 
 // Why a block does not extend a chain, with the values.
@@ -96,29 +96,29 @@ fn refusal_words(refusal: &BlockRefusal) -> Words<'_>
     ensures { words_of result ≡ refusal_words refusal.now }
 {
     match refusal {
-        BlockRefusal::B1 { tip, given } => two("B1", Hex(tip), Hex(given)),
-        BlockRefusal::B2 { wanted, given } => two("B2", Number(*wanted), Number(*given)),
-        BlockRefusal::B3 { tip_time, given } => two("B3", Number(*tip_time), Number(*given)),
-        BlockRefusal::B4 { given } => two("B4", Number(*given), Nothing),
+        BlockRefusal::B1 { tip, given } => two_values("B1", Hex(tip), Hex(given)),
+        BlockRefusal::B2 { wanted, given } => two_values("B2", Number(*wanted), Number(*given)),
+        BlockRefusal::B3 { tip_time, given } => two_values("B3", Number(*tip_time), Number(*given)),
+        BlockRefusal::B4 { given } => two_values("B4", Number(*given), Nothing),
         BlockRefusal::B5 { tip_version, given } => {
-            two("B5", Number(*tip_version), Number(*given))
+            two_values("B5", Number(*tip_version), Number(*given))
         }
-        BlockRefusal::B6 { computed, given } => two("B6", Hex(computed), Hex(given)),
-        BlockRefusal::B7 { kind, at } => two("B7", Why(*kind), Number(*at)),
-        BlockRefusal::B8 { place, refusal } => behind_place(*place, tx_words(refusal)),
-        BlockRefusal::B9 { computed, given } => two("B9", Hex(computed), Hex(given)),
+        BlockRefusal::B6 { computed, given } => two_values("B6", Hex(computed), Hex(given)),
+        BlockRefusal::B7 { kind, at } => two_values("B7", Why(*kind), Number(*at)),
+        BlockRefusal::B8 { place, refusal } => after_place(*place, tx_words(refusal)),
+        BlockRefusal::B9 { computed, given } => two_values("B9", Hex(computed), Hex(given)),
     }
 }
 
-// The refusal of a transaction, behind its place in a block.
-fn behind_place<'a>(place: u64, words: TxWords<'a>) -> Words<'a>
+// The refusal of a transaction, after its place in a block.
+fn after_place<'a>(place: u64, words: TxWords<'a>) -> Words<'a>
     ensures { words_of result ≡ tx_in_block place (tx_words_of words.entry) }
 {
     let TxWords(name, a, b, c) = words;
     Words("B8", [Number(place), Word(name), a, b, c])
 }
 
-// The name of a refusal of a transaction, and at most three values behind it.
+// The name of a refusal of a transaction, and at most three values after it.
 #[derive(Clone, Copy)]
 struct TxWords<'a>(&'static str, Piece<'a>, Piece<'a>, Piece<'a>);
 

@@ -1,4 +1,4 @@
-// Hex words in their places. One that is none is refused.
+//! Hex words in their places. One that is none is refused.
 ghost use Rattle.std.specs.Prelude.{◌≡◌, ◌+◌, ◌<◌, ◌≤◌, ◌^◌, length, IfOk, map, string_bytes};
 ghost use Rattle.std.specs.List.{AllByRecursion};
 ghost use Rattle.replies.specs.Recipe.{gives};

@@ -2,7 +2,9 @@
 use Rattle.std.specs.Prelude.{ℕ, ◌&&◌, List, [], ◌∷◌, length, Option, Some, None}
 use Rattle.std.specs.Prelude.{if◌then◌else◌, bytes_eq, codes, nat_le}
 use Rattle.std.specs.Option.{option_map}
-use Rattle.word_lines.specs.Word.{Word, decimal_within, decimal_most}
+use Rattle.word_lines.specs.Word.{Word}
+use Rattle.wire.specs.Decimal.{decimal_within}
+use Rattle.wire.specs.Spelling.{greatest}
 
 -- a command with the words that it takes
 pub data Command : Type 0 where
@@ -27,7 +29,7 @@ vm_words [] = None
 
 -- `init LEDGER TIME PROGRAM`
 abbrev pub init_words : List Word → Option Command
-init_words (ledger ∷ time ∷ program ∷ []) = option_map (λ n. Init ledger n program) (decimal_within decimal_most time)
+init_words (ledger ∷ time ∷ program ∷ []) = option_map (λ n. Init ledger n program) (decimal_within greatest time)
 init_words words = None
 
 -- `apply LEDGER OFFERS`
@@ -44,7 +46,7 @@ quorum_asked keys (Some m) =
 -- `quorum M KEY [KEY]...`
 abbrev pub quorum_words : List Word → Option Command
 quorum_words [] = None
-quorum_words (m ∷ keys) = quorum_asked keys (decimal_within decimal_most m)
+quorum_words (m ∷ keys) = quorum_asked keys (decimal_within greatest m)
 
 -- a command's name, and what reads the words after it
 pub record Named : Type 0 where

@@ -3,7 +3,7 @@ use Rattle.std.specs.Prelude.{◌≤◌, length, Option, Some, None, map, string
 use Rattle.command_words.specs.declared.grammar.Command.{Command as RustCommand}
 use Rattle.command_words.specs.declared.grammar.Command.TheVariants as rust
 use Rattle.command_words.specs.Command.{Command, Vm, Init, Apply, Quorum, limit_most}
-use Rattle.word_lines.specs.Word.{decimal_most}
+use Rattle.wire.specs.Spelling.{greatest}
 
 abbrev pub seen : RustCommand → Command
 seen (rust.Vm limit program args) = Vm limit program.now (map string_bytes args.now)
@@ -19,6 +19,6 @@ seen_command (Some command) = Some (seen command)
 abbrev pub HasLimit : Option RustCommand → Type 0
 HasLimit None = Unit {0}
 HasLimit (Some (rust.Vm limit program args)) = limit ≤ limit_most
-HasLimit (Some (rust.Init ledger time program)) = time ≤ decimal_most
+HasLimit (Some (rust.Init ledger time program)) = time ≤ greatest
 HasLimit (Some (rust.Apply ledger offers)) = Unit {0}
 HasLimit (Some (rust.Quorum m keys)) = (1 ≤ m) × (m ≤ length keys.now) × (length keys.now ≤ 16)

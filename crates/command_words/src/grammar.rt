@@ -1,11 +1,10 @@
-// The grammar of words.
+//! The grammar of words.
 ghost use Rattle.std.specs.Prelude.{◌≡◌, ◌+◌, ◌<◌, ◌^◌, length, map, string_bytes, IfOk, IfSome};
 ghost use Rattle.command_words.specs.Command.{command_of, vm_words, init_words, apply_words, quorum_words};
 ghost use Rattle.command_words.specs.Seen.{seen_command, HasLimit};
 
 use std::alloc::Global;
-use wire::NoMemory;
-use word_lines::{decimal, decimal_within};
+use wire::{MAX_NUMBER, NoMemory, decimal_within};
 
 // Until predicates run in frames of their own, a limit is at most 100,000.
 const LIMIT_MOST: u64 = 100_000;
@@ -63,7 +62,7 @@ fn vm_words(words: &[String]) -> Option<Command<'_>>
 {
     match words {
         [limit, program, args @ ..] => {
-            let limit = decimal_within(limit.as_str(), LIMIT_MOST)?;
+            let limit = decimal_within(limit.as_bytes(), LIMIT_MOST)?;
             Some(Command::Vm {
                 limit,
                 program: program.as_str(),
@@ -80,7 +79,7 @@ fn init_words(words: &[String]) -> Option<Command<'_>>
 {
     match words {
         [ledger, time, program] => {
-            let time = decimal(time.as_str())?;
+            let time = decimal_within(time.as_bytes(), MAX_NUMBER)?;
             Some(Command::Init {
                 ledger: ledger.as_str(),
                 time,
@@ -110,7 +109,7 @@ fn quorum_words(words: &[String]) -> Option<Command<'_>>
 {
     match words {
         [m, keys @ ..] => {
-            let m = decimal(m.as_str())?;
+            let m = decimal_within(m.as_bytes(), MAX_NUMBER)?;
             if m == 0 || m > keys.len() as u64 || keys.len() > KEYS_MOST {
                 return None;
             }

@@ -6,7 +6,8 @@ use Rattle.wire.specs.Spelling.{varint, varstring}
 use Rattle.wire.specs.Laws.{VarintLaws, VarstringLaws}
 use Rattle.data_model.specs.declared.header.Header.{Header}
 use Rattle.data_model.specs.declared.block.Block.{Block}
-use Rattle.data_model.specs.Spelling.{IsString, AreArgs, IsHeader, IsBlock, args_spelling, header_spelling, block_spelling}
+use Rattle.data_model.specs.Limits.{IsString, AreArgs}
+use Rattle.data_model.specs.Spelling.{IsHeader, IsBlock, args_spelling, header_spelling, block_spelling}
 use Rattle.data_model.specs.Files.{IsFramed}
 
 module _ (numbers : VarintLaws) (strings : VarstringLaws) where
@@ -24,9 +25,9 @@ module _ (numbers : VarintLaws) (strings : VarstringLaws) where
 
   args_len : (args : List (List ℕ)) → AreArgs args → length (args_spelling args) ≤ 4200000
   args_len args h =
-      let few = numbers.few (length args) (omega (arith, h.0)) in
-      let texts = texts_len args h.1 in
-      omega (arith, h.0, length-append (varint (length args)) (flat_map varstring args))
+      let few = numbers.few (length args) (omega (arith, h.count)) in
+      let texts = texts_len args h.each in
+      omega (arith, h.count, length-append (varint (length args)) (flat_map varstring args))
 
   header_len : (header : Header) → IsHeader header → length (header_spelling header) ≤ 70000
   unfolding header_spelling

@@ -12,7 +12,8 @@ use Rattle.data_model.specs.declared.input.Spend.{Spend}
 use Rattle.data_model.specs.declared.input.Input.{Input}
 use Rattle.data_model.specs.declared.output.Output.{Output}
 use Rattle.data_model.specs.declared.tx.Tx.{Tx}
-use Rattle.data_model.specs.Limits.{greatest, longest, args_layout}
+use Rattle.data_model.specs.Limits.{longest, args_layout}
+use Rattle.wire.specs.Spelling.{greatest}
 use Rattle.data_model.specs.Transaction.{most_inputs, most_outputs, body_layout, body_parts, issue_layout, issue_parts, spend_layout, spend_parts, input_layout, input_parts, control_layout, control_parts, retire_layout, retire_parts, output_layout, output_parts, tx_layout, tx_parts, tx_spelling}
 use Rattle.data_model.specs.TransactionReading.{body_made, body_at, issue_made, issue_at, control_made, control_at, retire_made, retire_at, spend_of, spend_at, input_at, output_at, tx_of, lists_at, next_tx_at}
 
@@ -127,6 +128,6 @@ pub tx_spelled : (tx : Tx) → tx_spelling tx
 unfolding tx_spelling
 tx_spelled tx = rw (many_spelling_map input_parts (spelling input_layout) tx.inputs, many_spelling_map output_parts (spelling output_layout) tx.outputs) refl
 
--- what is written behind the number of a kind
+-- what is written after the number of a kind
 pub behind_kind : {E : Type 0} (r : Result (Unit {0}) E) (old out new rest : List ℕ) (k : ℕ) → out ≡ old ++ k ∷ [] → OnOk r (new ≡ out ++ rest) → OnOk r (new ≡ old ++ k ∷ rest)
 behind_kind r old out new rest k e written = subst (λ (bytes : List ℕ). OnOk r (new ≡ bytes)) (ap (λ (front : List ℕ). front ++ rest) e ∙ append_assoc old (k ∷ []) rest) written

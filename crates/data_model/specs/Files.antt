@@ -7,7 +7,7 @@ use Rattle.data_model.specs.declared.block.Block.{Block}
 use Rattle.data_model.specs.Layout.{block_layout}
 use Rattle.data_model.specs.Spelling.{IsBlock, block_spelling}
 
--- the most bytes of a frame behind its length
+-- the most bytes of a frame after its length
 abbrev pub longest_frame : ℕ
 longest_frame = 67108864
 

@@ -1,8 +1,10 @@
 pub mod Limits
 pub mod Layout
 pub mod Spelling
+pub mod Fitting
 pub mod Reading
 pub mod Laws
 pub mod Files
 pub mod Transaction
 pub mod TransactionReading
+pub mod Members

@@ -1,18 +1,30 @@
 -- Reading from left to right, with the first fault that is met.
 use Rattle.std.specs.Prelude.{ℕ, List, Some, Result}
-use Rattle.wire.specs.Layout.{read_at}
+use Rattle.wire.specs.Layout.{Value, read_at}
 use Rattle.wire.specs.Places.{many_at}
 use Rattle.data_model.specs.declared.header.Header.{Header}
 use Rattle.data_model.specs.declared.block.Block.{Block}
 use Rattle.data_model.specs.declared.tx.Tx.{Tx}
 use Rattle.data_model.specs.Limits.{args_layout}
-use Rattle.data_model.specs.Layout.{header_layout, header_made, most_txs, most_tx_bytes}
+use Rattle.data_model.specs.Layout.{header_layout, most_txs, most_tx_bytes}
 use Rattle.data_model.specs.TransactionReading.{next_tx_at}
 pub use Rattle.wire.specs.Places.{Place, Fault, Reading, mapped, then_at, number_at, start, whole_at, Fails, Gives}
 pub use Rattle.wire.specs.Places.{Reads}
 
 abbrev pub args_at : Place → Reading (List (List ℕ))
 args_at place = read_at args_layout place
+
+-- the header of these values
+abbrev pub header_made : Value header_layout → Header
+header_made (version, (height, (previous, (time, (tx_root, (unspent_root, next_program)))))) = record {
+  version = version;
+  height = height;
+  previous = previous;
+  time = time;
+  tx_root = tx_root;
+  unspent_root = unspent_root;
+  next_program = next_program;
+}
 
 abbrev pub header_at : Place → Reading Header
 header_at place = mapped header_made (read_at header_layout place)

@@ -2,20 +2,15 @@
 use Rattle.std.specs.Prelude.{◌≡◌, ℕ, ◌^◌, ◌≤◌, ◌<◌, List, ◌++◌, length}
 use Rattle.std.specs.List.{flat_map, AllByRecursion}
 use Rattle.wire.specs.Spelling.{varint, varstring}
+use Rattle.wire.specs.Layout.{fields_spelling}
 use Rattle.data_model.specs.declared.header.Header.{Header}
 use Rattle.data_model.specs.declared.block.Block.{Block}
 use Rattle.data_model.specs.declared.tx.Tx.{Tx}
-use Rattle.data_model.specs.Limits.{longest, most_args}
-use Rattle.data_model.specs.Layout.{most_txs, most_tx_bytes}
+use Rattle.data_model.specs.Limits.{IsString, AreArgs}
+use Rattle.data_model.specs.Layout.{most_txs, most_tx_bytes, header_fields}
 use Rattle.data_model.specs.Transaction.{IsTx, tx_spelling}
 
 -- ---- within the limits
-
-abbrev pub IsString : List ℕ → Type 0
-IsString text = length text ≤ longest
-
-abbrev pub AreArgs : List (List ℕ) → Type 0
-AreArgs args = (length args ≤ most_args) × AllByRecursion IsString args
 
 pub record IsHeader (header : Header) : Type 0 where
   pub version : header.version < 2 ^ 63
@@ -44,10 +39,7 @@ abbrev pub args_spelling : List (List ℕ) → List ℕ
 args_spelling args = varint (length args) ++ flat_map varstring args
 
 unfoldable pub header_spelling : Header → List ℕ
-header_spelling header =
-    varint header.version ++ varint header.height ++ header.previous ++ varint header.time ++ header.tx_root
-    ++ header.unspent_root
-    ++ varstring header.next_program
+header_spelling = fields_spelling header_fields
 
 -- how many transactions there are, and the transactions
 abbrev pub txs_spelling : List Tx → List ℕ

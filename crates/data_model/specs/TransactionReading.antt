@@ -11,47 +11,53 @@ use Rattle.data_model.specs.declared.output.Control.{Control}
 use Rattle.data_model.specs.declared.output.Retire.{Retire}
 use Rattle.data_model.specs.declared.output.Output.{Output}
 use Rattle.data_model.specs.declared.tx.Tx.{Tx}
-use Rattle.data_model.specs.Limits.{greatest, longest, args_layout}
+use Rattle.data_model.specs.Limits.{longest, args_layout}
+use Rattle.wire.specs.Spelling.{greatest}
 use Rattle.data_model.specs.Transaction.{most_inputs, most_outputs, body_layout, issue_layout, control_layout}
 use Rattle.data_model.specs.Transaction.{retire_layout}
 
 -- ---- records of fields alone
 
 abbrev pub body_made : Value body_layout → OutputBody
-body_made v = record {
-  source = v.0;
-  position = v.1.0;
-  asset = v.1.1.0;
-  amount = v.1.1.1.0;
-  program = v.1.1.1.1.0;
-  data_hash = v.1.1.1.1.1;
+body_made (source, (position, (asset, (amount, (program, data_hash))))) = record {
+  source = source;
+  position = position;
+  asset = asset;
+  amount = amount;
+  program = program;
+  data_hash = data_hash;
 }
 
 abbrev pub body_at : Place → Reading OutputBody
 body_at place = mapped body_made (read_at body_layout place)
 
 abbrev pub issue_made : Value issue_layout → Issue
-issue_made v = record {
-  nonce = v.0;
-  asset = v.1.0;
-  amount = v.1.1.0;
-  program = v.1.1.1.0;
-  definition = v.1.1.1.1.0;
-  refdata = v.1.1.1.1.1.0;
-  args = v.1.1.1.1.1.1;
+issue_made (nonce, (asset, (amount, (program, (definition, (refdata, args)))))) = record {
+  nonce = nonce;
+  asset = asset;
+  amount = amount;
+  program = program;
+  definition = definition;
+  refdata = refdata;
+  args = args;
 }
 
 abbrev pub issue_at : Place → Reading Issue
 issue_at place = mapped issue_made (read_at issue_layout place)
 
 abbrev pub control_made : Value control_layout → Control
-control_made v = record { asset = v.0; amount = v.1.0; program = v.1.1.0; refdata = v.1.1.1 }
+control_made (asset, (amount, (program, refdata))) = record {
+  asset = asset;
+  amount = amount;
+  program = program;
+  refdata = refdata;
+}
 
 abbrev pub control_at : Place → Reading Control
 control_at place = mapped control_made (read_at control_layout place)
 
 abbrev pub retire_made : Value retire_layout → Retire
-retire_made v = record { asset = v.0; amount = v.1.0; refdata = v.1.1 }
+retire_made (asset, (amount, refdata)) = record { asset = asset; amount = amount; refdata = refdata }
 
 abbrev pub retire_at : Place → Reading Retire
 retire_at place = mapped retire_made (read_at retire_layout place)
@@ -59,7 +65,7 @@ retire_at place = mapped retire_made (read_at retire_layout place)
 -- ---- records of records
 
 abbrev pub spend_of : OutputBody × (List ℕ × List (List ℕ)) → Spend
-spend_of v = record { from = v.0; refdata = v.1.0; args = v.1.1 }
+spend_of (from, (refdata, args)) = record { from = from; refdata = refdata; args = args }
 
 abbrev pub spend_at : Place → Reading Spend
 spend_at place = mapped spend_of (then_at body_at (read_at (Text longest ▸ args_layout)) place)
@@ -71,13 +77,13 @@ abbrev pub output_at : Place → Reading Output
 output_at = either_at Output.Control Output.Retire control_at retire_at
 
 abbrev pub tx_of : ℕ × (ℕ × (ℕ × (List ℕ × (List Input × List Output)))) → Tx
-tx_of v = record {
-  version = v.0;
-  mintime = v.1.0;
-  maxtime = v.1.1.0;
-  refdata = v.1.1.1.0;
-  inputs = v.1.1.1.1.0;
-  outputs = v.1.1.1.1.1;
+tx_of (version, (mintime, (maxtime, (refdata, (inputs, outputs))))) = record {
+  version = version;
+  mintime = mintime;
+  maxtime = maxtime;
+  refdata = refdata;
+  inputs = inputs;
+  outputs = outputs;
 }
 
 abbrev pub lists_at : Place → Reading (List Input × List Output)

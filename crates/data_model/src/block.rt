@@ -1,3 +1,4 @@
+//! A block.
 ghost use Rattle.std.specs.Prelude.{◌≡◌, IfOk};
 
 use crate::{Header, Txs};

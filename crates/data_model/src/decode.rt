@@ -24,7 +24,7 @@ pub fn decode_block(alloc: Global, b: &[u8]) -> Result<Block, DataFault>
     // What is spelled so is read, unless memory runs out.
     ensures only { (block : Block) → IsBlock block → b.now ≡ block_spelling block → Gives result (Ok block) }
 
-    // What is told is the first fault, and the first fault is told, unless memory runs out.
+    // What is reported is the first fault, and the first fault is reported, unless memory runs out.
     ensures fault { (f : Fault)
         → result ≡ Err (DataFault.At f.at f.kind)
         → FirstFaultOfAll block_layout b.now f.at f.kind }
@@ -46,7 +46,7 @@ pub fn decode_tx(alloc: Global, b: &[u8]) -> Result<Tx, DataFault>
     // What is spelled so is read, unless memory runs out.
     ensures only { (tx : Tx) → IsTx tx → b.now ≡ tx_spelling tx → Gives result (Ok tx) }
 
-    // What is told is the first fault, and the first fault is told, unless memory runs out.
+    // What is reported is the first fault, and the first fault is reported, unless memory runs out.
     ensures fault { (f : Fault)
         → result ≡ Err (DataFault.At f.at f.kind)
         → FirstFaultOfAll tx_layout b.now f.at f.kind }

@@ -27,7 +27,7 @@ pub fn read_blocks(alloc: Global, bytes: &[u8]) -> Result<Blocks, FramesFault>
     // What is spelled so is read, unless memory runs out.
     ensures only { (blocks : List Block) → BlocksReadAs bytes.now (Ok blocks) → FileGives result (Ok blocks) }
 
-    // What is told is the first fault, and the first fault is told, unless memory runs out.
+    // What is reported is the first fault, and the first fault is reported, unless memory runs out.
     ensures fault { (f : FileFault)
         → result ≡ Err (FramesFault.At f.index f.at f.kind)
         → BlocksReadAs bytes.now (Err f) }

@@ -1,3 +1,4 @@
+//! The header of a block.
 ghost use Rattle.std.specs.Prelude.{◌≡◌, IfOk};
 
 use std::alloc::Global;

@@ -1,3 +1,4 @@
+//! The inputs of a transaction: issuances and spends.
 ghost use Rattle.std.specs.Prelude.{◌≡◌, IfOk};
 
 use crate::OutputBody;
@@ -14,7 +15,7 @@ pub enum Input {
 /// New units of an asset.
 #[derive(Debug, Drop)]
 pub struct Issue {
-    /// What tells this issuance from others. Empty where a spend of the transaction does.
+    /// What sets this issuance apart from others. Empty where a spend of the transaction does.
     pub nonce: Bytes,
     /// The asset, which is the id of its program and its definition.
     pub asset: Id,

@@ -1,3 +1,4 @@
+//! The outputs of a transaction: those under a program, and retirements.
 ghost use Rattle.std.specs.Prelude.{◌≡◌, IfOk};
 
 use std::alloc::Global;

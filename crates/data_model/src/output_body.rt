@@ -1,3 +1,4 @@
+//! An output as a spend names it.
 ghost use Rattle.std.specs.Prelude.{◌≡◌, IfOk};
 
 use std::alloc::Global;

@@ -1,9 +1,7 @@
 //! Headers and blocks as records: how each is read at a place, and written.
 use crate::{Block, Header, Tx};
 use std::alloc::Global;
-use wire::{Bytes, Cursor, DataFault, NoMemory, Record, Writer, layout_readings};
-
-pub(crate) const MAX_NUMBER: u64 = (1 << 63) - 1;
+use wire::{Bytes, Cursor, DataFault, MAX_NUMBER, NoMemory, Record, Writer, layout_readings};
 
 pub(crate) const MAX_STRING_LEN: u64 = 65_536;
 
@@ -28,21 +26,14 @@ impl Record for Header {
     ghost reading = { header_at };
 
     fn read(alloc: Global, cursor: &mut Cursor<'_>) -> Result<Header, DataFault> {
-        let version = cursor.number(MAX_NUMBER)?;
-        let height = cursor.number(MAX_NUMBER)?;
-        let previous = cursor.id()?;
-        let time = cursor.number(MAX_NUMBER)?;
-        let tx_root = cursor.id()?;
-        let unspent_root = cursor.id()?;
-        let next_program = cursor.text(alloc, MAX_STRING_LEN)?;
         Ok(Header {
-            version,
-            height,
-            previous,
-            time,
-            tx_root,
-            unspent_root,
-            next_program,
+            version: cursor.number(MAX_NUMBER)?,
+            height: cursor.number(MAX_NUMBER)?,
+            previous: cursor.id()?,
+            time: cursor.number(MAX_NUMBER)?,
+            tx_root: cursor.id()?,
+            unspent_root: cursor.id()?,
+            next_program: cursor.text(alloc, MAX_STRING_LEN)?,
         })
     }
 
@@ -77,10 +68,11 @@ impl Record for Block {
     ghost reading = { next_block_at };
 
     fn read(alloc: Global, cursor: &mut Cursor<'_>) -> Result<Block, DataFault> {
-        let header = Header::read(alloc, cursor)?;
-        let args = cursor.many::<Bytes>(alloc, MAX_ARGS, None)?;
-        let txs = cursor.many::<Tx>(alloc, MAX_TXS, Some(MAX_TX_BYTES))?;
-        Ok(Block { header, args, txs })
+        Ok(Block {
+            header: Header::read(alloc, cursor)?,
+            args: cursor.many::<Bytes>(alloc, MAX_ARGS, None)?,
+            txs: cursor.many::<Tx>(alloc, MAX_TXS, Some(MAX_TX_BYTES))?,
+        })
     }
 
     #[tactic(auto, unfolding(crate::specs::Spelling::block_spelling))]

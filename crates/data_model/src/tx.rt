@@ -1,3 +1,4 @@
+//! A transaction.
 ghost use Rattle.std.specs.Prelude.{◌≡◌, IfOk};
 
 use crate::{Inputs, Outputs};

@@ -1,8 +1,8 @@
 //! Transactions and their parts as records: how each is read at a place, and written.
-use crate::records::{MAX_ARGS, MAX_NUMBER, MAX_STRING_LEN};
+use crate::records::{MAX_ARGS, MAX_STRING_LEN};
 use crate::{Control, Input, Issue, Output, OutputBody, Retire, Spend, Tx};
 use std::alloc::Global;
-use wire::{Bytes, Cursor, DataFault, NoMemory, Record, Writer, layout_readings};
+use wire::{Bytes, Cursor, DataFault, MAX_NUMBER, NoMemory, Record, Writer, layout_readings};
 
 const MAX_INPUTS: u64 = 256;
 
@@ -22,19 +22,13 @@ impl Record for OutputBody {
     ghost reading = { body_at };
 
     fn read(alloc: Global, cursor: &mut Cursor<'_>) -> Result<OutputBody, DataFault> {
-        let source = cursor.id()?;
-        let position = cursor.number(MAX_NUMBER)?;
-        let asset = cursor.id()?;
-        let amount = cursor.amount(MAX_NUMBER)?;
-        let program = cursor.text(alloc, MAX_STRING_LEN)?;
-        let data_hash = cursor.id()?;
         Ok(OutputBody {
-            source,
-            position,
-            asset,
-            amount,
-            program,
-            data_hash,
+            source: cursor.id()?,
+            position: cursor.number(MAX_NUMBER)?,
+            asset: cursor.id()?,
+            amount: cursor.amount(MAX_NUMBER)?,
+            program: cursor.text(alloc, MAX_STRING_LEN)?,
+            data_hash: cursor.id()?,
         })
     }
 
@@ -54,12 +48,12 @@ impl Record for OutputBody {
 }
 
 impl Record for Issue {
-    ghost use Rattle.wire.specs.Layout.{Fits, spelling};
+    ghost use Rattle.wire.specs.Layout.{spelling};
     ghost use Rattle.wire.specs.FirstFault.{FirstFault};
-    ghost use Rattle.data_model.specs.Transaction.{issue_layout, issue_parts};
+    ghost use Rattle.data_model.specs.Transaction.{issue_layout, issue_parts, IsIssue};
     ghost use Rattle.data_model.specs.TransactionReading.{issue_at};
 
-    ghost fits = { λ issue. Fits issue_layout (issue_parts issue) };
+    ghost fits = { IsIssue };
 
     ghost spelling = { λ issue. spelling issue_layout (issue_parts issue) };
 
@@ -68,21 +62,14 @@ impl Record for Issue {
     ghost reading = { issue_at };
 
     fn read(alloc: Global, cursor: &mut Cursor<'_>) -> Result<Issue, DataFault> {
-        let nonce = cursor.text(alloc, MAX_STRING_LEN)?;
-        let asset = cursor.id()?;
-        let amount = cursor.amount(MAX_NUMBER)?;
-        let program = cursor.text(alloc, MAX_STRING_LEN)?;
-        let definition = cursor.text(alloc, MAX_STRING_LEN)?;
-        let refdata = cursor.text(alloc, MAX_STRING_LEN)?;
-        let args = cursor.many::<Bytes>(alloc, MAX_ARGS, None)?;
         Ok(Issue {
-            nonce,
-            asset,
-            amount,
-            program,
-            definition,
-            refdata,
-            args,
+            nonce: cursor.text(alloc, MAX_STRING_LEN)?,
+            asset: cursor.id()?,
+            amount: cursor.amount(MAX_NUMBER)?,
+            program: cursor.text(alloc, MAX_STRING_LEN)?,
+            definition: cursor.text(alloc, MAX_STRING_LEN)?,
+            refdata: cursor.text(alloc, MAX_STRING_LEN)?,
+            args: cursor.many::<Bytes>(alloc, MAX_ARGS, None)?,
         })
     }
 
@@ -102,12 +89,12 @@ impl Record for Issue {
 }
 
 impl Record for Spend {
-    ghost use Rattle.wire.specs.Layout.{Fits, spelling};
+    ghost use Rattle.wire.specs.Layout.{spelling};
     ghost use Rattle.wire.specs.FirstFault.{FirstFault};
-    ghost use Rattle.data_model.specs.Transaction.{spend_layout, spend_parts};
+    ghost use Rattle.data_model.specs.Transaction.{spend_layout, spend_parts, IsSpend};
     ghost use Rattle.data_model.specs.TransactionReading.{spend_at};
 
-    ghost fits = { λ spend. Fits spend_layout (spend_parts spend) };
+    ghost fits = { IsSpend };
 
     ghost spelling = { λ spend. spelling spend_layout (spend_parts spend) };
 
@@ -116,13 +103,10 @@ impl Record for Spend {
     ghost reading = { spend_at };
 
     fn read(alloc: Global, cursor: &mut Cursor<'_>) -> Result<Spend, DataFault> {
-        let from = OutputBody::read(alloc, cursor)?;
-        let refdata = cursor.text(alloc, MAX_STRING_LEN)?;
-        let args = cursor.many::<Bytes>(alloc, MAX_ARGS, None)?;
         Ok(Spend {
-            from,
-            refdata,
-            args,
+            from: OutputBody::read(alloc, cursor)?,
+            refdata: cursor.text(alloc, MAX_STRING_LEN)?,
+            args: cursor.many::<Bytes>(alloc, MAX_ARGS, None)?,
         })
     }
 
@@ -178,12 +162,12 @@ impl Record for Input {
 }
 
 impl Record for Control {
-    ghost use Rattle.wire.specs.Layout.{Fits, spelling};
+    ghost use Rattle.wire.specs.Layout.{spelling};
     ghost use Rattle.wire.specs.FirstFault.{FirstFault};
-    ghost use Rattle.data_model.specs.Transaction.{control_layout, control_parts};
+    ghost use Rattle.data_model.specs.Transaction.{control_layout, control_parts, IsControl};
     ghost use Rattle.data_model.specs.TransactionReading.{control_at};
 
-    ghost fits = { λ control. Fits control_layout (control_parts control) };
+    ghost fits = { IsControl };
 
     ghost spelling = { λ control. spelling control_layout (control_parts control) };
 
@@ -192,15 +176,11 @@ impl Record for Control {
     ghost reading = { control_at };
 
     fn read(alloc: Global, cursor: &mut Cursor<'_>) -> Result<Control, DataFault> {
-        let asset = cursor.id()?;
-        let amount = cursor.amount(MAX_NUMBER)?;
-        let program = cursor.text(alloc, MAX_STRING_LEN)?;
-        let refdata = cursor.text(alloc, MAX_STRING_LEN)?;
         Ok(Control {
-            asset,
-            amount,
-            program,
-            refdata,
+            asset: cursor.id()?,
+            amount: cursor.amount(MAX_NUMBER)?,
+            program: cursor.text(alloc, MAX_STRING_LEN)?,
+            refdata: cursor.text(alloc, MAX_STRING_LEN)?,
         })
     }
 
@@ -217,12 +197,12 @@ impl Record for Control {
 }
 
 impl Record for Retire {
-    ghost use Rattle.wire.specs.Layout.{Fits, spelling};
+    ghost use Rattle.wire.specs.Layout.{spelling};
     ghost use Rattle.wire.specs.FirstFault.{FirstFault};
-    ghost use Rattle.data_model.specs.Transaction.{retire_layout, retire_parts};
+    ghost use Rattle.data_model.specs.Transaction.{retire_layout, retire_parts, IsRetire};
     ghost use Rattle.data_model.specs.TransactionReading.{retire_at};
 
-    ghost fits = { λ retire. Fits retire_layout (retire_parts retire) };
+    ghost fits = { IsRetire };
 
     ghost spelling = { λ retire. spelling retire_layout (retire_parts retire) };
 
@@ -231,13 +211,10 @@ impl Record for Retire {
     ghost reading = { retire_at };
 
     fn read(alloc: Global, cursor: &mut Cursor<'_>) -> Result<Retire, DataFault> {
-        let asset = cursor.id()?;
-        let amount = cursor.amount(MAX_NUMBER)?;
-        let refdata = cursor.text(alloc, MAX_STRING_LEN)?;
         Ok(Retire {
-            asset,
-            amount,
-            refdata,
+            asset: cursor.id()?,
+            amount: cursor.amount(MAX_NUMBER)?,
+            refdata: cursor.text(alloc, MAX_STRING_LEN)?,
         })
     }
 
@@ -305,19 +282,13 @@ impl Record for Tx {
     ghost reading = { next_tx_at };
 
     fn read(alloc: Global, cursor: &mut Cursor<'_>) -> Result<Tx, DataFault> {
-        let version = cursor.number(MAX_NUMBER)?;
-        let mintime = cursor.number(MAX_NUMBER)?;
-        let maxtime = cursor.number(MAX_NUMBER)?;
-        let refdata = cursor.text(alloc, MAX_STRING_LEN)?;
-        let inputs = cursor.many::<Input>(alloc, MAX_INPUTS, None)?;
-        let outputs = cursor.many::<Output>(alloc, MAX_OUTPUTS, None)?;
         Ok(Tx {
-            version,
-            mintime,
-            maxtime,
-            refdata,
-            inputs,
-            outputs,
+            version: cursor.number(MAX_NUMBER)?,
+            mintime: cursor.number(MAX_NUMBER)?,
+            maxtime: cursor.number(MAX_NUMBER)?,
+            refdata: cursor.text(alloc, MAX_STRING_LEN)?,
+            inputs: cursor.many::<Input>(alloc, MAX_INPUTS, None)?,
+            outputs: cursor.many::<Output>(alloc, MAX_OUTPUTS, None)?,
         })
     }
 

@@ -1,29 +1,8 @@
--- What holds of one of a transaction's inputs or outputs, and of ids that are found one after the other.
-use Rattle.std.proofs.Common.{◌≡◌, ℕ, zero, suc, ◌+◌, ◌<◌, List, [], ◌∷◌, ◌++◌, length, take, get_or, Some, sym, ap, subst, ◌∙◌, append_assoc, append-nil, add-one, arith}
+-- Ids that are found one after the other.
+use Rattle.std.proofs.Common.{◌≡◌, ℕ, zero, suc, ◌+◌, List, [], ◌∷◌, ◌++◌, take, Some, sym, ap, ◌∙◌, append_assoc, append-nil, add-one, arith}
 use Rattle.std.specs.Prelude.{map, slice_get}
-use Rattle.std.specs.List.{AllByRecursion, concat, enumerate_from}
-use Rattle.wire.specs.Layout.{Fits}
-use Rattle.wire.specs.Records.{AllByRecursion-map}
-use Rattle.data_model.specs.declared.input.Input.{Input}
-use Rattle.data_model.specs.declared.output.Output.{Output}
-use Rattle.data_model.specs.declared.tx.Tx.{Tx}
-use Rattle.data_model.specs.Transaction.{input_layout, input_parts, IsInput, output_layout, output_parts, IsOutput, IsTx}
-
--- this stands at that place of the list
-pub record StandsAt {X : Type 0} (xs : List X) (i : ℕ) (x : X) : Type 0 where
-  pub there : i < length xs
-  pub is : x ≡ get_or xs i x
-
-held : {X : Type 0} (P : X → Type 0) (xs : List X) (i : ℕ) (x : X) → AllByRecursion P xs → StandsAt xs i x → P x
-held P [] i x h s = absurd (omega (arith, s.there))
-held P (y ∷ xs) zero x h s = subst P (sym s.is) h.0
-held P (y ∷ xs) (suc i) x h s = held P xs i x h.1 (record { there = omega (arith, s.there); is = s.is })
-
-pub is_input : (tx : Tx) (i : ℕ) (input : Input) → IsTx tx → StandsAt tx.inputs i input → IsInput input
-is_input tx i input h s = held IsInput tx.inputs i input (AllByRecursion-map input_parts (Fits input_layout) tx.inputs h.1.1.1.1.0.1.each) s
-
-pub is_output : (tx : Tx) (i : ℕ) (output : Output) → IsTx tx → StandsAt tx.outputs i output → IsOutput output
-is_output tx i output h s = held IsOutput tx.outputs i output (AllByRecursion-map output_parts (Fits output_layout) tx.outputs h.1.1.1.1.1.1.each) s
+use Rattle.std.specs.List.{concat, enumerate_from}
+use Rattle.wire.specs.Lists.{StandsAt}
 
 -- ---- ids, one after the other
 

@@ -1,11 +1,8 @@
 -- The ids of entries, for any hash as a function from bytes to bytes.
 use Rattle.std.specs.Prelude.{ℕ, List, ◌++◌, codes}
+use Rattle.keyed.specs.Functions.{Hash}
 use Rattle.data_model.specs.declared.header.Header.{Header}
 use Rattle.data_model.specs.Spelling.{header_spelling}
-
--- a hash, as a function of bytes
-abbrev pub Hash : Type 0
-Hash = List ℕ → List ℕ
 
 -- what is hashed to the id of an entry of this type with this body
 abbrev pub entry_text : Hash → List ℕ → List ℕ → List ℕ

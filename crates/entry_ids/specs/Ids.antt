@@ -15,7 +15,8 @@ use Rattle.data_model.specs.Transaction.{body_spelling}
 use Rattle.entry_ids.specs.declared.input.Named.{Named}
 use Rattle.entry_ids.specs.declared.input.Named.TheVariants as named_as
 use Rattle.entry_ids.specs.declared.tx.TxIds.{TxIds}
-use Rattle.entry_ids.specs.Entry.{Hash, entry}
+use Rattle.entry_ids.specs.Entry.{entry}
+use Rattle.keyed.specs.Functions.{Hash}
 
 -- the id of an asset: the initial block's id, its program and its definition
 unfoldable pub asset_id : Hash → (initial program definition : List ℕ) → List ℕ

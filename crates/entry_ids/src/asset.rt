@@ -1,3 +1,4 @@
+//! The id of an asset.
 ghost use Rattle.std.specs.Prelude.{◌≡◌, ◌++◌, IfOk, OnOk, codes};
 ghost use Rattle.wire.specs.Spelling.{varstring};
 ghost use Rattle.entry_ids.specs.Ids.{asset_id};

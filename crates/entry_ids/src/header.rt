@@ -1,3 +1,4 @@
+//! The id of a block.
 ghost use Rattle.std.specs.Prelude.{◌≡◌, IfOk};
 ghost use Rattle.data_model.specs.Spelling.{IsHeader};
 ghost use Rattle.entry_ids.specs.Entry.{header_id};

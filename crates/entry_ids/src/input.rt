@@ -120,7 +120,7 @@ fn ids_of_issue<H: IdHash>(
     })
 }
 
-// Writes the id of an issuance's nonce as a string, an empty one where the nonce is empty, and tells what it names.
+// Writes the id of an issuance's nonce as a string, an empty one where the nonce is empty, and gives what it names.
 fn begin_with_nonce<H: IdHash>(
     hash: &H,
     tx: &Tx,

@@ -1,3 +1,4 @@
+//! What a signature of an input signs.
 ghost use Rattle.std.specs.Prelude.{◌≡◌, ◌++◌, IfOk, OnOk};
 ghost use Rattle.entry_ids.specs.Ids.{sig_hash};
 

@@ -46,7 +46,7 @@ pub fn tx_ids<H: IdHash>(alloc: Global, hash: &H, tx: &Tx) -> Result<TxIds, NoMe
     let mut of_inputs = InputLists::with_room(alloc, tx.inputs.len())?;
     let mut of_results = ResultLists::with_room(alloc, tx.outputs.len())?;
     let own = add_ids(alloc, hash, tx, &mut of_inputs, &mut of_results)?;
-    Ok(together(own, of_inputs, of_results))
+    Ok(join_ids(own, of_inputs, of_results))
 }
 
 /// The id of a transaction.
@@ -100,7 +100,7 @@ struct OwnIds {
 }
 
 // All of it as one.
-fn together(own: OwnIds, of_inputs: InputLists, of_results: ResultLists) -> TxIds
+fn join_ids(own: OwnIds, of_inputs: InputLists, of_results: ResultLists) -> TxIds
     ensures { result ≡ record {
       tx = own.tx;
       mux = own.mux;
@@ -250,7 +250,7 @@ fn put_results<H: IdHash>(
     Ok(())
 }
 
-// Ends a transaction's body behind the ids of its outputs and retirements, and gives the transaction's id.
+// Ends a transaction's body after the ids of its outputs and retirements, and gives the transaction's id.
 fn end<H: IdHash>(hash: &H, tx: &Tx, data_hash: &Id, body: &mut Writer) -> Result<Id, NoMemory>
     requires tx { IsTx tx.now }
     requires data_hash { data_hash.now ≡ H.hash_of hash.now tx.now.refdata }

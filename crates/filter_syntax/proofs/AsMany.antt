@@ -3,6 +3,7 @@ use Rattle.std.specs.Prelude.{◌≡◌, ℕ, ◌+◌, suc, Bool, true, false, L
 use Rattle.std.proofs.Common.{sym, ap, ◌∙◌, arith}
 use Rattle.std.proofs.lemmas.List.{map-append}
 use Rattle.std.proofs.lemmas.List.Sums.{sum_by-append}
+use Rattle.grammars.specs.Places.{kinds}
 use Rattle.filter_syntax.specs.declared.tree.Cond.{Cond}
 use Rattle.filter_syntax.specs.declared.tree.Cond.TheVariants as conditions
 use Rattle.filter_syntax.specs.Token.{Token, Open, Close, Equals, And, Or, Inputs, Outputs, Name}
@@ -11,7 +12,7 @@ use Rattle.filter_syntax.specs.Grammar.{Rule, Alternatives, Conjunction, Reads, 
 use Rattle.filter_syntax.specs.Grammar.{outputs, comparison, IsValue, Text, Decimal, Parameter}
 use Rattle.filter_syntax.specs.Grammar as grammar
 use Rattle.filter_syntax.specs.Shown.{tokens_at, is_enclosed, enclosed_if, scope_token}
-use Rattle.filter_syntax.specs.Printing.{unplaced, is_attribute, compared}
+use Rattle.filter_syntax.specs.Printing.{is_attribute, compared}
 use Rattle.filter_syntax.proofs.ShownParts.{or_tokens, and_tokens, scope_tokens, is_tokens, enclosed_at}
 use Rattle.filter_syntax.proofs.Reprints.{the_value}
 
@@ -38,17 +39,17 @@ by_rules rule other c =
     ∙ sym (enclosed (is_enclosed other c) (tokens_at Alternatives c)) ∙ sym (ap compared (enclosed_at other c))
 
 unplaced_pair : (u w : List Placed) (t : Token) (at : ℕ) → is_attribute t ≡ false
-    → compared (unplaced (u ++ ((t, at) ∷ w))) ≡ compared (unplaced u) + compared (unplaced w)
+    → compared (kinds (u ++ ((t, at) ∷ w))) ≡ compared (kinds u) + compared (kinds w)
 unplaced_pair u w t at not =
-    ap compared (map-append (λ (p : Placed). p.0) u ((t, at) ∷ w)) ∙ pair (unplaced u) (unplaced w) t not
+    ap compared (map-append (λ (p : Placed). p.0) u ((t, at) ∷ w)) ∙ pair (kinds u) (kinds w) t not
 
 unplaced_inner : (u : List Placed) (first close : ℕ)
-    → compared (unplaced ((Open, first) ∷ (u ++ ((Close, close) ∷ [])))) ≡ compared (unplaced u)
+    → compared (kinds ((Open, first) ∷ (u ++ ((Close, close) ∷ [])))) ≡ compared (kinds u)
 unplaced_inner u first close =
     let none : compared [] ≡ 0 = refl in
     omega (
       arith,
-      other Open (unplaced (u ++ ((Close, close) ∷ []))) refl,
+      other Open (kinds (u ++ ((Close, close) ∷ []))) refl,
       unplaced_pair u [] Close close refl,
       none,
     )
@@ -76,7 +77,7 @@ scope_count side c =
     ∙ enclosed true (tokens_at Alternatives c)
 
 pub as_many : (rule : Rule) (d : ℕ) (s : Bool) (u : List Placed) (c : Cond) → Reads rule d s u c
-    → compared (tokens_at rule c) ≡ compared (unplaced u)
+    → compared (tokens_at rule c) ≡ compared (kinds u)
 as_many _ d s u c (conjunction h) = by_rules Alternatives Conjunction c ∙ as_many Conjunction d s u c h
 as_many _ d s _ _ (grammar.or {u = u} {w = w} {a = a} {b = b} at h k) =
     omega (
@@ -99,10 +100,10 @@ as_many _ (suc d) s _ c (parentheses {u = u} at close h) =
     by_rules grammar.Unit Alternatives c ∙ as_many Alternatives d s u c h ∙ sym (unplaced_inner u at close)
 as_many _ (suc d) _ _ _ (inputs {u = u} {c = c} at first close h) =
     scope_count true c ∙ as_many Alternatives d false u c h ∙ sym (unplaced_inner u first close)
-    ∙ sym (other Inputs (unplaced ((Open, first) ∷ (u ++ ((Close, close) ∷ [])))) refl)
+    ∙ sym (other Inputs (kinds ((Open, first) ∷ (u ++ ((Close, close) ∷ [])))) refl)
 as_many _ (suc d) _ _ _ (outputs {u = u} {c = c} at first close h) =
     scope_count false c ∙ as_many Alternatives d false u c h ∙ sym (unplaced_inner u first close)
-    ∙ sym (other Outputs (unplaced ((Open, first) ∷ (u ++ ((Close, close) ∷ [])))) refl)
+    ∙ sym (other Outputs (kinds ((Open, first) ∷ (u ++ ((Close, close) ∷ [])))) refl)
 as_many _ d s _ _ (comparison {name = name} {token = t} {value = v} at equals place h) =
     ap compared (is_tokens grammar.Unit name v)
     ∙ ap (λ (t : Token). compared (Name name ∷ Equals ∷ t ∷ [])) (sym (the_value t v h))

@@ -6,6 +6,7 @@ use Rattle.std.specs.List.{AllByRecursion}
 use Rattle.std.proofs.lemmas.Option.{same_Some}
 use mathlib.Core.List.{append_assoc}
 use Rattle.grammars.specs.Text.{next}
+use Rattle.filter_syntax.specs.Intermediate.{AllKnown}
 use Rattle.filter_syntax.specs.declared.tree.RowKind.{RowKind}
 use Rattle.filter_syntax.specs.declared.tree.Cond.{Cond, roll-Cond}
 use Rattle.filter_syntax.specs.declared.tree.Cond.TheOpen.{Cond-F}
@@ -13,8 +14,8 @@ use Rattle.filter_syntax.specs.declared.tree.Cond.TheFolds.{map-Cond, fold-roll-
 use Rattle.filter_syntax.specs.declared.tree.Cond.TheVariants as conditions
 use Rattle.filter_syntax.specs.declared.tree.FilterValue.{FilterValue}
 use Rattle.filter_syntax.specs.Attributes.{attributes}
-use Rattle.filter_syntax.specs.By.{is_among}
-use Rattle.filter_syntax.specs.Compared.{Compared, comparisons_by, comparisons, IsKnown, AllKnown, FirstUnknown}
+use Rattle.wire.specs.Strings.{is_among}
+use Rattle.filter_syntax.specs.Compared.{Compared, comparisons_by, comparisons, IsKnown, FirstUnknown}
 
 abbrev rest_of : {T : Type 0} → List T → List T
 rest_of [] = []
@@ -112,7 +113,7 @@ pub ruleset by_parts = (
   first_alone,
 )
 
--- ---- what the index tells
+-- ---- what the index reports
 
 -- It is one of the attributes' indices.
 pub first_within : (kind : RowKind) (compared : List Compared) (index : ℕ) → FirstUnknown kind compared index

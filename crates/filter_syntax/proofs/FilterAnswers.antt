@@ -17,7 +17,7 @@ use Rattle.filter_syntax.specs.Shown.{shown, tokens_at}
 use Rattle.filter_syntax.specs.Tokens.{ended}
 use Rattle.filter_syntax.specs.Tokens.{Placed}
 use Rattle.filter_syntax.specs.Grammar.{Alternatives}
-use Rattle.filter_syntax.specs.Texts.{IsFilterText, HasTokens, SyntaxAt, ReadsAs, UnknownAt, AreKnown, kind_of, within}
+use Rattle.filter_syntax.specs.Texts.{IsFilterText, HasTokens, SyntaxAt, ReadsAs, UnknownAt, AreKnown, kind_of, limited_to}
 use Rattle.filter_syntax.specs.Texts.{has_scopes, is_comparison, AnswersFilter, FilterLaws}
 use Rattle.filter_syntax.specs.Limiting.{AnswersOr}
 use Rattle.filter_syntax.specs.Compared.{Compared, comparisons, IsKnown, FirstUnknown, places_of_names, name_place}
@@ -27,13 +27,13 @@ use Rattle.filter_syntax.proofs.Groupings.{shown_text}
 use Rattle.filter_syntax.proofs.TokenLists.{token_laws}
 use Rattle.filter_syntax.proofs.Verdict.{fine_tokens, fine_kinds, others_of, rest_of, no_syntax, same_reading, some_reading}
 use Rattle.filter_syntax.specs.Attributes.{attributes}
-use Rattle.filter_syntax.specs.By.{is_among}
+use Rattle.wire.specs.Strings.{is_among}
 
 -- ---- a text's tokens, and the names among them
 
 pub one_tokens : (text : List ℕ) (a b : List Placed) → HasTokens text a → HasTokens text b → a ≡ b
 one_tokens text a b h k =
-    h.limited ∙ ap (within 256) (token_laws.one 0 text h.placed k.placed h.are k.are) ∙ sym k.limited
+    h.limited ∙ ap (limited_to 256) (token_laws.one 0 text h.placed k.placed h.are k.are) ∙ sym k.limited
 
 names_more : (p : Placed) (ps : List Placed) (most : ℕ) → length (places_of_names ps) ≤ most
     → length (places_of_names (p ∷ ps)) ≤ suc most
@@ -44,23 +44,23 @@ names_same : (p : Placed) (ps : List Placed) → is_comparison p ≡ false → p
 names_same (Name name, at) ps is = absurd (true≢false is)
 names_same _ ps is = refl
 
-names_within : (most : ℕ) (ps : List Placed) → length (places_of_names (within most ps)) ≤ most
+names_within : (most : ℕ) (ps : List Placed) → length (places_of_names (limited_to most ps)) ≤ most
 names_within most [] = omega arith
 names_within zero (p ∷ ps) = by_kind (is_comparison p) refl (names_within zero ps)
   where
-    by_kind : (b : Bool) → is_comparison p ≡ b → length (places_of_names (within zero ps)) ≤ 0
-        → length (places_of_names (cond b ((Bad, p.1) ∷ []) (p ∷ within zero ps))) ≤ 0
+    by_kind : (b : Bool) → is_comparison p ≡ b → length (places_of_names (limited_to zero ps)) ≤ 0
+        → length (places_of_names (cond b ((Bad, p.1) ∷ []) (p ∷ limited_to zero ps))) ≤ 0
     by_kind true is h = omega arith
     by_kind false is h =
-        subst (λ (l : List ℕ). length l ≤ 0) (sym (names_same p (within zero ps) is)) h
+        subst (λ (l : List ℕ). length l ≤ 0) (sym (names_same p (limited_to zero ps) is)) h
 names_within (suc most) (p ∷ ps) = by_kind (is_comparison p) refl (names_within most ps) (names_within (suc most) ps)
   where
-    by_kind : (b : Bool) → is_comparison p ≡ b → length (places_of_names (within most ps)) ≤ most
-        → length (places_of_names (within (suc most) ps)) ≤ suc most
-        → length (places_of_names (p ∷ within (cond b most (suc most)) ps)) ≤ suc most
-    by_kind true is h k = names_more p (within most ps) most h
+    by_kind : (b : Bool) → is_comparison p ≡ b → length (places_of_names (limited_to most ps)) ≤ most
+        → length (places_of_names (limited_to (suc most) ps)) ≤ suc most
+        → length (places_of_names (p ∷ limited_to (cond b most (suc most)) ps)) ≤ suc most
+    by_kind true is h k = names_more p (limited_to most ps) most h
     by_kind false is h k =
-        subst (λ (l : List ℕ). length l ≤ suc most) (sym (names_same p (within (suc most) ps) is)) k
+        subst (λ (l : List ℕ). length l ≤ suc most) (sym (names_same p (limited_to (suc most) ps) is)) k
 
 names_before : (ts : List Placed) (end : ℕ) → places_of_names (ts ++ ((End, end) ∷ [])) ≡ places_of_names ts
 names_before ts end = filter_map-append name_place ts ((End, end) ∷ []) ∙ append-nil (places_of_names ts)
@@ -69,8 +69,8 @@ names_before ts end = filter_map-append name_place ts ((End, end) ∷ []) ∙ ap
 pub few_comparisons : (kind : RowKind) (text : List ℕ) (c : Cond) → ReadsAs kind text (Some c)
     → length (comparisons None c) < 2 ^ 64
 few_comparisons kind text c h =
-    let few : length (places_of_names (within 256 h.has.placed)) ≤ 256 = names_within 256 h.has.placed in
-    let same : places_of_names (within 256 h.has.placed) ≡ places_of_names h.tokens =
+    let few : length (places_of_names (limited_to 256 h.has.placed)) ≤ 256 = names_within 256 h.has.placed in
+    let same : places_of_names (limited_to 256 h.has.placed) ≡ places_of_names h.tokens =
     ap places_of_names (sym h.has.limited) ∙ names_before h.tokens h.end in
     omega (
       arith,
@@ -132,7 +132,7 @@ all_known kind (x ∷ list) = by_known (is_among (attributes kind x.0) x.1) refl
 some_answer : (kind : RowKind) (text : List ℕ) → (answer : Result Filter FilterFault) × AnswersFilter kind text answer
 some_answer kind text =
     let read = token_laws.some 0 text in
-    by_reading (some_reading kind text (within 256 read.0) (record { placed = read.0; are = read.1; limited = refl }))
+    by_reading (some_reading kind text (limited_to 256 read.0) (record { placed = read.0; are = read.1; limited = refl }))
   where
     by_known : (c : Cond) → ReadsAs kind text (Some c)
         → AllByRecursion (IsKnown kind) (comparisons None c) ⊎ ((index : ℕ) × FirstUnknown kind (comparisons None c) index)
@@ -164,7 +164,7 @@ not_both : (kind : RowKind) (text : List ℕ) (r : Option Cond) (at : ℕ) → R
 not_both kind text r at h k = no_syntax kind text r at h k
     (one_tokens text k.tokens (h.tokens ++ ((End, h.end) ∷ [])) k.has h.has)
 
--- tokens behind fronts of one length
+-- tokens after prefixes of one length
 same_place : (f g : List Placed) (p q : Placed) (r s : List Placed) → map kind_of f ≡ map kind_of g
     → f ++ (p ∷ r) ≡ g ++ (q ∷ s) → p ≡ q
 same_place [] [] p q r s kinds same = same_Some p q (ap next same)
@@ -265,21 +265,21 @@ fewer_named : (p : Placed) (ps : List Placed) (most : ℕ) → is_comparison p �
     → length (places_of_names (p ∷ ps)) ≤ suc most → length (places_of_names ps) ≤ most
 fewer_named p ps most is few = omega (arith, names_one p ps is, few)
 
-within_all : (most : ℕ) (ps : List Placed) → length (places_of_names ps) ≤ most → within most ps ≡ ps
+within_all : (most : ℕ) (ps : List Placed) → length (places_of_names ps) ≤ most → limited_to most ps ≡ ps
 within_all zero [] few = refl
 within_all (suc most) [] few = refl
 within_all zero (p ∷ ps) few = by_kind (is_comparison p) refl (within_all zero ps)
   where
-    by_kind : (b : Bool) → is_comparison p ≡ b → (length (places_of_names ps) ≤ 0 → within zero ps ≡ ps)
-        → cond b ((Bad, p.1) ∷ []) (p ∷ within zero ps) ≡ p ∷ ps
+    by_kind : (b : Bool) → is_comparison p ≡ b → (length (places_of_names ps) ≤ 0 → limited_to zero ps ≡ ps)
+        → cond b ((Bad, p.1) ∷ []) (p ∷ limited_to zero ps) ≡ p ∷ ps
     by_kind true is rest = absurd (none_named p ps is few)
     by_kind false is rest =
         ap (λ ps. p ∷ ps) (rest (subst (λ (l : List ℕ). length l ≤ 0) (names_same p ps is) few))
 within_all (suc most) (p ∷ ps) few = by_kind (is_comparison p) refl (within_all most ps) (within_all (suc most) ps)
   where
-    by_kind : (b : Bool) → is_comparison p ≡ b → (length (places_of_names ps) ≤ most → within most ps ≡ ps)
-        → (length (places_of_names ps) ≤ suc most → within (suc most) ps ≡ ps)
-        → p ∷ within (cond b most (suc most)) ps ≡ p ∷ ps
+    by_kind : (b : Bool) → is_comparison p ≡ b → (length (places_of_names ps) ≤ most → limited_to most ps ≡ ps)
+        → (length (places_of_names ps) ≤ suc most → limited_to (suc most) ps ≡ ps)
+        → p ∷ limited_to (cond b most (suc most)) ps ≡ p ∷ ps
     by_kind true is rest other = ap (λ ps. p ∷ ps) (rest (fewer_named p ps most is few))
     by_kind false is rest other =
         ap (λ ps. p ∷ ps) (other (subst (λ (l : List ℕ). length l ≤ suc most) (names_same p ps is) few))
@@ -288,8 +288,8 @@ printed_read : (kind : RowKind) (text : List ℕ) (c : Cond) → ReadsAs kind te
     → ReadsAs kind (written (tokens_at Alternatives c)) (Some c)
 printed_read kind text c h =
     let t = shown_text 32 (has_scopes kind) h.tokens c h.reads (fine_kinds h.tokens (fine_tokens kind text (Some c) h)) in
-    let few : length (places_of_names (within 256 h.has.placed)) ≤ 256 = names_within 256 h.has.placed in
-    let same : places_of_names (within 256 h.has.placed) ≡ places_of_names h.tokens =
+    let few : length (places_of_names (limited_to 256 h.has.placed)) ≤ 256 = names_within 256 h.has.placed in
+    let same : places_of_names (limited_to 256 h.has.placed) ≡ places_of_names h.tokens =
     ap places_of_names (sym h.has.limited) ∙ names_before h.tokens h.end in
     let short : length (places_of_names (t.tokens ++ ((End, t.end) ∷ []))) ≤ 256 =
     omega (

@@ -8,9 +8,11 @@ use Rattle.std.proofs.lemmas.Bool.{cond-true, cond-false, eq-eqb, ne_eqb}
 use Rattle.std.proofs.lemmas.Bool.Decides.{nat_tests}
 use Rattle.std.proofs.lemmas.List.{get_or-drop, take-take}
 use Rattle.std.specs.List.{prefix_len}
+use Rattle.wire.specs.Spelling.{greatest}
+use Rattle.wire.specs.Decimal.{decimal_within}
 use Rattle.filter_syntax.specs.Spelling.{is_name_byte, is_word, is_quotable}
 use Rattle.filter_syntax.specs.Token.{Token, Quoted, Param, spelling}
-use Rattle.filter_syntax.specs.Lexing.{run_of, number_of, word_token, run_token, numbered, param_token, closed}
+use Rattle.filter_syntax.specs.Lexing.{run_of, word_token, run_token, numbered, param_token, closed}
 use Rattle.filter_syntax.specs.Lexing.{quoted_token, between, token_of, IsFound}
 use Rattle.filter_syntax.specs.declared.tokens.Kind.{Kind}
 use Rattle.filter_syntax.specs.declared.tokens.Kind.TheVariants as kinds
@@ -36,7 +38,7 @@ word_found text kind len is within word token =
 
 pub number_found : (text : List ℕ) (n len : ℕ) → len ≡ prefix_len is_name_byte text → len ≤ length text
     → is_word (take len text) ≡ false
-    → number_of (take len text) ≡ Some n
+    → decimal_within greatest (take len text) ≡ Some n
     → IsFound text (kinds.Number n) len (run_token (run_of text))
 number_found text n len is within word number =
     let long : length (take len text) ≡ len = omega (arith, length-take len text) in
@@ -52,7 +54,7 @@ number_found text n len is within word number =
 
 pub run_none : (text : List ℕ) (len : ℕ) → len ≡ prefix_len is_name_byte text
     → is_word (take len text) ≡ false
-    → number_of (take len text) ≡ None
+    → decimal_within greatest (take len text) ≡ None
     → run_token (run_of text) ≡ None
 run_none text len is word number = ap (λ (n : ℕ). run_token (take n text)) (sym is) ∙ no_run (take len text) word number
 
@@ -65,14 +67,14 @@ numbered_none : (n : ℕ) → (1 ≤ n → n ≤ 99 → ⊥) → numbered n ≡ 
 numbered_none n past = grind (arith, nat_tests)
 
 pub param_found : (tail : List ℕ) (n len : ℕ) → len ≡ prefix_len is_name_byte tail → len ≤ length tail
-    → number_of (take len tail) ≡ Some n → 1 ≤ n → n ≤ 99
+    → decimal_within greatest (take len tail) ≡ Some n → 1 ≤ n → n ≤ 99
     → IsFound (36 ∷ tail) (kinds.Param n) (len + 1) (param_token (run_of tail))
 unfolding param_token
 param_found tail n len is within number low high =
     let long : length (take len tail) ≡ len = omega (arith, length-take len tail) in
     let digits = ap (λ (l : List ℕ). length l) (number_is (take len tail) n number).1 in
     record {
-      is = ap (λ (n : ℕ). option_and_then numbered (number_of (take n tail))) (sym is)
+      is = ap (λ (n : ℕ). option_and_then numbered (decimal_within greatest (take n tail))) (sym is)
           ∙ ap (λ (o : Option ℕ). option_and_then numbered o) number ∙ numbered_is n low high;
       takes = omega (arith, digits, long);
       some = omega arith;
@@ -80,19 +82,19 @@ param_found tail n len is within number low high =
     }
 
 pub param_past : (tail : List ℕ) (n len : ℕ) → len ≡ prefix_len is_name_byte tail
-    → number_of (take len tail) ≡ Some n → (1 ≤ n → n ≤ 99 → ⊥)
+    → decimal_within greatest (take len tail) ≡ Some n → (1 ≤ n → n ≤ 99 → ⊥)
     → param_token (run_of tail) ≡ None
 unfolding param_token
 param_past tail n len is number past =
-    ap (λ (n : ℕ). option_and_then numbered (number_of (take n tail))) (sym is)
+    ap (λ (n : ℕ). option_and_then numbered (decimal_within greatest (take n tail))) (sym is)
     ∙ ap (λ (o : Option ℕ). option_and_then numbered o) number ∙ numbered_none n past
 
 pub param_none : (tail : List ℕ) (len : ℕ) → len ≡ prefix_len is_name_byte tail
-    → number_of (take len tail) ≡ None
+    → decimal_within greatest (take len tail) ≡ None
     → param_token (run_of tail) ≡ None
 unfolding param_token
 param_none tail len is number =
-    ap (λ (n : ℕ). option_and_then numbered (number_of (take n tail))) (sym is)
+    ap (λ (n : ℕ). option_and_then numbered (decimal_within greatest (take n tail))) (sym is)
     ∙ ap (λ (o : Option ℕ). option_and_then numbered o) number
 
 -- ---- quoted texts

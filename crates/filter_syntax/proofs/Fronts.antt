@@ -5,7 +5,7 @@ use Rattle.std.proofs.Common.{inr, append_assoc, length-append, length-drop, add
 use Rattle.std.specs.Prelude.{codes, decimal, option_and_then}
 use Rattle.std.proofs.lemmas.List.{take-append-drop, append-nil, get_or-drop}
 use Rattle.std.proofs.Math.Seq.{drop-append_seam}
-use Rattle.std.proofs.lemmas.Fmt.{digits_decimal, decimal_nonempty}
+use Rattle.std.proofs.lemmas.Fmt.{decimal_nonempty}
 use Rattle.std.proofs.lemmas.Bool.Decides.{nat_tests}
 use Rattle.std.proofs.lemmas.List.Sums.{take_while-cons, prefix_len_stops}
 use Rattle.std.proofs.lemmas.List.Folds.{length-prefix_len, list_all-append}
@@ -13,17 +13,19 @@ use Rattle.std.proofs.lemmas.Bool.{leb-true, cond-true, cond-false, and_parts, a
 use Rattle.std.proofs.lemmas.Bool.{eqb-true, ne_eqb}
 use Rattle.std.specs.List.{list_all, prefix_len, take_while}
 use Rattle.std.specs.Char.{is_ascii_digit}
+use Rattle.wire.specs.Spelling.{greatest}
+use Rattle.wire.specs.Decimal.{decimal_within, digits_written}
 use Rattle.filter_syntax.specs.Spelling.{begins_name, is_name_byte, is_word, is_quotable}
 use Rattle.filter_syntax.specs.Token.{Token, Open, Close, Equals, And, Or, Inputs, Outputs, Name, Quoted, Number}
 use Rattle.filter_syntax.specs.Token.{Param, End, Bad, spelling, CanBeWritten}
 use Rattle.filter_syntax.specs.Tokens.{IsApart, MayPrecede, BeginsWith, BeginsWithLongest, BeginsWithNone}
-use Rattle.filter_syntax.specs.Lexing.{run_of, number_of, word_token, run_token, numbered, param_token, closed}
+use Rattle.filter_syntax.specs.Lexing.{run_of, word_token, run_token, numbered, param_token, closed}
 use Rattle.filter_syntax.specs.Lexing.{quoted_token, first_token}
-use Rattle.filter_syntax.proofs.Numbers.{own, chosen, when, number_is, number_again}
+use Rattle.filter_syntax.proofs.Numbers.{chosen, when, number_is, number_again}
 use Rattle.filter_syntax.proofs.WordTokens.{word_spelled, word_bytes, word_some, name_again, and_again, or_again}
 use Rattle.filter_syntax.proofs.WordTokens.{inputs_again, outputs_again, run_is, word_run, number_run}
 
--- ---- the front that passes a test
+-- ---- the prefix that passes a test
 
 module _ (p : ℕ → Bool) where
   pub front_onto : (w more : List ℕ) → list_all p w ≡ true → take_while p (w ++ more) ≡ w ++ take_while p more
@@ -164,7 +166,7 @@ number_front n more low apart = ap (λ (l : List ℕ). decimal n ++ l) (run_apar
 leads_number : (n : ℕ) (more : List ℕ) → n < 2 ^ 63 → IsApart more → Leads (Number n) more (decimal n ++ more)
 leads_number n more low apart =
     let wide : n < 2 ^ 64 = omega arith in
-    let digits = digits_decimal own n wide in
+    let digits = digits_written n wide in
     record {
       token = Number n;
       is = run_first (decimal n) more (decimal_nonempty n wide) (digits_bytes (decimal n) digits)
@@ -189,7 +191,7 @@ param_again n low high = ap (λ (o : Option ℕ). option_and_then numbered o) (n
 leads_param : (n : ℕ) (more : List ℕ) → 1 ≤ n → n ≤ 99 → IsApart more → Leads (Param n) more (36 ∷ (decimal n ++ more))
 leads_param n more low high apart =
     let wide : n < 2 ^ 64 = omega arith in
-    let digits = digits_decimal own n wide in
+    let digits = digits_written n wide in
     record {
       token = Param n;
       is = param_first (decimal n ++ more)
@@ -302,12 +304,12 @@ numbered_some n token is =
     let parts = and_parts (leb 1 n) (leb n 99) test.0 in
     (leb-true 1 n parts.0, leb-true n 99 parts.1, test.1)
 
--- what a run behind a `$` is read as
+-- what a run after a `$` is read as
 pub param_is : (run : List ℕ) (token : Token) → param_token run ≡ Some token
     → (n : ℕ) × (1 ≤ n) × (n ≤ 99) × (Param n ≡ token) × (decimal n ≡ run)
 unfolding param_token
 param_is run token is =
-    let found = option_then_some numbered (number_of run) token is in
+    let found = option_then_some numbered (decimal_within greatest run) token is in
     let small = numbered_some found.0 token found.2 in
     let number = number_is run found.0 found.1 in
     (found.0, small.0, small.1, small.2, number.1)
@@ -476,13 +478,6 @@ none_begins text is token rest b = at (leads text token rest b)
   where
     at : Leads token rest text → ⊥
     at lead = none_some lead.token (sym is ∙ lead.is)
-
-pub begins_none : (text : List ℕ) → BeginsWithNone text → first_token text ≡ None
-begins_none text none = by (first_token text) refl
-  where
-    by : (o : Option Token) → first_token text ≡ o → first_token text ≡ None
-    by None e = e
-    by (Some t) e = absurd (none t (drop (length (spelling t)) text) (begins text t e))
 
 -- a token is written with some bytes
 pub spelling_some : (token : Token) → CanBeWritten token → 0 < length (spelling token)

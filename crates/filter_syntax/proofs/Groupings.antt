@@ -6,6 +6,7 @@ use Rattle.std.proofs.lemmas.Option.{none-some}
 use Rattle.std.proofs.lemmas.List.{map-append}
 use mathlib.Core.List.{append_assoc}
 use Rattle.grammars.specs.Text.{next}
+use Rattle.grammars.specs.Places.{kinds}
 use Rattle.filter_syntax.specs.declared.tree.Cond.{Cond}
 use Rattle.filter_syntax.specs.declared.tree.Cond.TheVariants as conditions
 use Rattle.filter_syntax.specs.Token.{Token, And, Or, End, CanBeWritten, written}
@@ -13,7 +14,7 @@ use Rattle.filter_syntax.specs.Tokens.{Placed, AreTokens}
 use Rattle.filter_syntax.specs.Grammar.{Rule, Alternatives, Conjunction, Reads, conjunction}
 use Rattle.filter_syntax.specs.Grammar as grammar
 use Rattle.filter_syntax.specs.Shown.{tokens_at}
-use Rattle.filter_syntax.specs.Printing.{unplaced, TokensRead, TextReads, OrRight, AndLeft, AndRight, with_bare}
+use Rattle.filter_syntax.specs.Printing.{TokensRead, TextReads, OrRight, AndLeft, AndRight, with_bare}
 use Rattle.filter_syntax.specs.Printing.{GroupingLaws}
 use Rattle.filter_syntax.proofs.Places.{split, headed, token_of}
 use Rattle.filter_syntax.proofs.TokenLists.{token_laws}
@@ -22,16 +23,16 @@ use Rattle.filter_syntax.proofs.Reprints.{placed, unplaced_placed, deeper, shown
 
 -- two parts with a token between them
 unplaced_pair : (u : List Placed) (t : Token) (w : List Placed)
-    → unplaced (u ++ ((t, 0) ∷ w)) ≡ unplaced u ++ (t ∷ unplaced w)
+    → kinds (u ++ ((t, 0) ∷ w)) ≡ kinds u ++ (t ∷ kinds w)
 unplaced_pair u t w = map-append (λ (p : Placed). p.0) u ((t, 0) ∷ w)
 
-pair_same : (u w : List Placed) (t : Token) (x y : List Token) → unplaced u ≡ x → unplaced w ≡ y
-    → unplaced (u ++ ((t, 0) ∷ w)) ≡ x ++ (t ∷ y)
+pair_same : (u w : List Placed) (t : Token) (x y : List Token) → kinds u ≡ x → kinds w ≡ y
+    → kinds (u ++ ((t, 0) ∷ w)) ≡ x ++ (t ∷ y)
 pair_same u w t x y first second =
-    unplaced_pair u t w ∙ ap (λ (l : List Token). l ++ (t ∷ unplaced w)) first
+    unplaced_pair u t w ∙ ap (λ (l : List Token). l ++ (t ∷ kinds w)) first
     ∙ ap (λ (l : List Token). x ++ (t ∷ l)) second
 
--- a condition, and one behind OR as it is printed
+-- a condition, and one after OR as it is printed
 joined_or : (s : Bool) (x y : List Token) (a b : Cond) → TokensRead Alternatives s x a → TokensRead Conjunction s y b
     → TokensRead Alternatives s (x ++ (Or ∷ tokens_at Conjunction b)) (conditions.Or a b)
 joined_or s x y a b h k =
@@ -47,7 +48,7 @@ joined_or s x y a b h k =
           (deeper Conjunction k.depth d s shown b (omega arith) second);
     }
 
--- and behind AND
+-- and after AND
 joined_and : (s : Bool) (x y : List Token) (a b : Cond) → TokensRead Conjunction s x a → TokensRead grammar.Unit s y b
     → TokensRead Conjunction s (x ++ (And ∷ tokens_at grammar.Unit b)) (conditions.And a b)
 joined_and s x y a b h k =
@@ -68,7 +69,7 @@ reads_same : (rule : Rule) (s : Bool) (x y : List Token) (c : Cond) → x ≡ y 
     → TokensRead rule s y c
 reads_same rule s x y c is h = subst (λ (l : List Token). TokensRead rule s l c) is h
 
--- an operator behind two parts is one behind the second
+-- an operator after two parts is one after the second
 regrouped : (x y z : List Token) (t u : Token) → (x ++ (t ∷ y)) ++ (u ∷ z) ≡ x ++ (t ∷ (y ++ (u ∷ z)))
 regrouped x y z t u = append_assoc x (t ∷ y) (u ∷ z)
 
@@ -140,7 +141,7 @@ none_left (t ∷ w) same = absurd (none-some (token_of t) (sym (ap next same)))
 
 -- What is written of the tokens of a condition reads as it.
 pub shown_text : (d : ℕ) (s : Bool) (u : List Placed) (c : Cond) → Reads Alternatives d s u c
-    → AllByRecursion CanBeWritten (unplaced u) → TextReads d s (written (tokens_at Alternatives c)) c
+    → AllByRecursion CanBeWritten (kinds u) → TextReads d s (written (tokens_at Alternatives c)) c
 shown_text d s u c h fine =
     let ts : List Token = tokens_at Alternatives c in
     let read = token_laws.again ts (shown_formed Alternatives d s u c h fine) in

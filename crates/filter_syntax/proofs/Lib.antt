@@ -16,7 +16,7 @@ pub mod Places
 pub mod Turns
 pub mod Limits
 pub mod Verdict
-pub mod Told
+pub mod Reported
 pub mod Comparisons
 pub mod Counted
 pub mod FilterAnswers

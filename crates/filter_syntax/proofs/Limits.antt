@@ -6,7 +6,7 @@ use Rattle.std.proofs.lemmas.List.{map-append, take_more, take_all, drop_all}
 use Rattle.filter_syntax.specs.Token.{Bad}
 use Rattle.filter_syntax.specs.Tokens.{Placed}
 use Rattle.filter_syntax.specs.Lexing.{seen, token_of}
-use Rattle.filter_syntax.specs.Texts.{within, is_comparison}
+use Rattle.filter_syntax.specs.Texts.{limited_to, is_comparison}
 use Rattle.filter_syntax.specs.Limiting.{lexeme_at, IsLimited}
 use Rattle.filter_syntax.specs.declared.tokens.Lexeme.{Lexeme}
 use Rattle.filter_syntax.specs.declared.tokens.Kind.{Kind}
@@ -14,8 +14,8 @@ use Rattle.filter_syntax.specs.declared.tokens.Kind.TheVariants as kinds
 
 -- what is within the limit is the tokens so far, and what is within the rest of it of the others
 pub record Limiting (text : List ℕ) (lexemes : List Lexeme) (most at left : ℕ) : Type 0 where
-  pub same : within most (map (seen text) lexemes)
-      ≡ map (seen text) (take at lexemes) ++ within left (map (seen text) (drop at lexemes))
+  pub same : limited_to most (map (seen text) lexemes)
+      ≡ map (seen text) (take at lexemes) ++ limited_to left (map (seen text) (drop at lexemes))
 
 module _ (text : List ℕ) where
   pub limiting_begin : (lexemes : List Lexeme) (most : ℕ) → Limiting text lexemes most 0 most
@@ -31,40 +31,40 @@ module _ (text : List ℕ) where
 
   -- what is said of the tokens from the next on
   further : (lexemes : List Lexeme) (most at left left' : ℕ) → at < length lexemes → Limiting text lexemes most at left
-      → within left (seen text (the lexemes at) ∷ map (seen text) (drop (at + 1) lexemes))
-      ≡ seen text (the lexemes at) ∷ within left' (map (seen text) (drop (at + 1) lexemes))
+      → limited_to left (seen text (the lexemes at) ∷ map (seen text) (drop (at + 1) lexemes))
+      ≡ seen text (the lexemes at) ∷ limited_to left' (map (seen text) (drop (at + 1) lexemes))
       → Limiting text lexemes most (at + 1) left'
   further lexemes most at left left' small h step = record {
     same = h.same
-        ∙ ap (λ l. map (seen text) (take at lexemes) ++ within left (map (seen text) l)) (behind at lexemes small)
+        ∙ ap (λ l. map (seen text) (take at lexemes) ++ limited_to left (map (seen text) l)) (behind at lexemes small)
         ∙ ap (λ r. map (seen text) (take at lexemes) ++ r) step
         ∙ sym (append_assoc (map (seen text) (take at lexemes)) (seen text (the lexemes at) ∷ [])
-        (within left' (map (seen text) (drop (at + 1) lexemes))))
-        ∙ ap (λ l. l ++ within left' (map (seen text) (drop (at + 1) lexemes)))
+        (limited_to left' (map (seen text) (drop (at + 1) lexemes))))
+        ∙ ap (λ l. l ++ limited_to left' (map (seen text) (drop (at + 1) lexemes)))
         (sym (map-append (seen text) (take at lexemes) (the lexemes at ∷ [])))
-        ∙ ap (λ l. map (seen text) l ++ within left' (map (seen text) (drop (at + 1) lexemes)))
+        ∙ ap (λ l. map (seen text) l ++ limited_to left' (map (seen text) (drop (at + 1) lexemes)))
         (sym (take_more lexemes at (record { kind = kinds.Open; from = 0; to = 0 }) small));
   }
 
   passes_other : (left : ℕ) (p : Placed) (ps : List Placed) → is_comparison p ≡ false
-      → within left (p ∷ ps) ≡ p ∷ within left ps
-  passes_other zero p ps is = ap (λ b. cond b ((Bad, p.1) ∷ []) (p ∷ within zero ps)) is
-  passes_other (suc left) p ps is = ap (λ b. p ∷ within (cond b left (suc left)) ps) is
+      → limited_to left (p ∷ ps) ≡ p ∷ limited_to left ps
+  passes_other zero p ps is = ap (λ b. cond b ((Bad, p.1) ∷ []) (p ∷ limited_to zero ps)) is
+  passes_other (suc left) p ps is = ap (λ b. p ∷ limited_to (cond b left (suc left)) ps) is
 
   passes_name : (left : ℕ) (p : Placed) (ps : List Placed) → is_comparison p ≡ true → 0 < left
-      → within left (p ∷ ps) ≡ p ∷ within (left - 1) ps
+      → limited_to left (p ∷ ps) ≡ p ∷ limited_to (left - 1) ps
   passes_name zero p ps is some = absurd (none some)
     where
       none : 0 < 0 → ⊥
       none h = omega (arith, h)
   passes_name (suc left) p ps is some =
       let one : suc left - 1 ≡ left = omega arith in
-      ap (λ b. p ∷ within (cond b left (suc left)) ps) is ∙ ap (λ n. p ∷ within n ps) (sym one)
+      ap (λ b. p ∷ limited_to (cond b left (suc left)) ps) is ∙ ap (λ n. p ∷ limited_to n ps) (sym one)
 
   stops_name : (left : ℕ) (p : Placed) (ps : List Placed) → is_comparison p ≡ true → left ≡ 0
-      → within left (p ∷ ps) ≡ (Bad, p.1) ∷ []
-  stops_name left p ps is none = ap (λ n. within n (p ∷ ps)) none
-      ∙ ap (λ b. cond b ((Bad, p.1) ∷ []) (p ∷ within zero ps)) is
+      → limited_to left (p ∷ ps) ≡ (Bad, p.1) ∷ []
+  stops_name left p ps is none = ap (λ n. limited_to n (p ∷ ps)) none
+      ∙ ap (λ b. cond b ((Bad, p.1) ∷ []) (p ∷ limited_to zero ps)) is
 
   -- a lexeme of this kind
   compares : (l : Lexeme) (kind : Kind) → l.kind ≡ kind
@@ -88,18 +88,18 @@ module _ (text : List ℕ) where
       → (the lexemes at).kind ≡ kinds.Name → left ≡ 0 → Limiting text lexemes most at left
       → IsLimited text lexemes most at
   limited_here lexemes most at left small is none h = h.same
-      ∙ ap (λ l. map (seen text) (take at lexemes) ++ within left (map (seen text) l)) (behind at lexemes small)
+      ∙ ap (λ l. map (seen text) (take at lexemes) ++ limited_to left (map (seen text) l)) (behind at lexemes small)
       ∙ ap (λ r. map (seen text) (take at lexemes) ++ r)
       (stops_name left (seen text (the lexemes at)) (map (seen text) (drop (at + 1) lexemes))
       (compares (the lexemes at) kinds.Name is) none)
 
-  within_none : (left : ℕ) → within left [] ≡ []
+  within_none : (left : ℕ) → limited_to left [] ≡ []
   within_none zero = refl
   within_none (suc left) = refl
 
   pub unlimited : (lexemes : List Lexeme) (most at left : ℕ) → length lexemes ≤ at → Limiting text lexemes most at left
-      → within most (map (seen text) lexemes) ≡ map (seen text) lexemes
+      → limited_to most (map (seen text) lexemes) ≡ map (seen text) lexemes
   unlimited lexemes most at left past h = h.same
-      ∙ ap (λ l. map (seen text) (take at lexemes) ++ within left (map (seen text) l)) (drop_all at lexemes past)
+      ∙ ap (λ l. map (seen text) (take at lexemes) ++ limited_to left (map (seen text) l)) (drop_all at lexemes past)
       ∙ ap (λ r. map (seen text) (take at lexemes) ++ r) (within_none left)
       ∙ append-nil (map (seen text) (take at lexemes)) ∙ ap (map (seen text)) (take_all at lexemes past)

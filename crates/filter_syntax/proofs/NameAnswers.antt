@@ -5,11 +5,13 @@ use Rattle.std.proofs.lemmas.Bool.{cases_Bool, cases_order, and_parts, and_from,
 use Rattle.std.proofs.lemmas.List.{append-nil}
 use Rattle.std.proofs.lemmas.List.Folds.{list_all-append}
 use Rattle.std.specs.List.{AllByRecursion, list_all, join_with_byte}
+use Rattle.filter_syntax.specs.Intermediate.{SplitFault}
 use Rattle.filter_syntax.specs.Spelling.{begins_name, is_name_byte, is_word}
 use Rattle.filter_syntax.specs.Tokens.{IsApart}
 use Rattle.filter_syntax.specs.Attributes.{by_attributes}
 use Rattle.filter_syntax.specs.By.{Names, Joins, Begins, GoesOn, IsSyntaxFault, IsKnown, IsFirstUnknown, AnswersBy}
-use Rattle.filter_syntax.specs.By.{is_among, before_next, each_once, SplitFault}
+use Rattle.wire.specs.Strings.{is_among}
+use Rattle.filter_syntax.specs.By.{before_next, each_once}
 use Rattle.filter_syntax.specs.Laws.{ByLaws}
 use Rattle.filter_syntax.specs.declared.fault.FilterFault.{FilterFault}
 use Rattle.filter_syntax.specs.declared.fault.FilterFault.TheVariants.{Syntax, UnknownAttribute, NoMemory}
@@ -295,7 +297,7 @@ one_answer text (Err NoMemory) b one other = absurd one
 pub by_laws : ByLaws
 by_laws = record { some = some_answer; one = one_answer; same = among_once; once = never_twice; order = once_front }
 
--- ---- how long names are with a comma behind each
+-- ---- how long names are with a comma after each
 
 before_length : (n : List ℕ) (names : Names) → length (before_next (n ∷ names)) ≡ length
     (join_with_byte 44 (n ∷ names)) + 1
@@ -315,7 +317,7 @@ joins_length text (n ∷ names) joins =
     let whole = ap (λ (l : List ℕ). length l) joins.joined in
     omega (arith, before_length n names, whole)
 
--- what is told of a text that is not split
+-- what is reported of a text that is not split
 pub split_told : (text bytes : List ℕ) (fault : FilterFault) (answer : Result Names FilterFault) → bytes ≡ text
     → SplitFault bytes fault
     → (◌≡◌ {A = Result Names FilterFault} (Err fault) (Err NoMemory) → ⊥)

@@ -4,8 +4,9 @@ use Rattle.std.proofs.Common.{ap, ◌∙◌, append_assoc, length-append}
 use Rattle.std.proofs.lemmas.Bool.{cond-true, cond-false, and_parts, ne_eqb}
 use Rattle.std.proofs.lemmas.List.{append-nil}
 use Rattle.std.specs.List.{AllByRecursion, join_with_byte, list_all}
+use Rattle.filter_syntax.specs.Intermediate.{BeginsNoWord}
 use Rattle.filter_syntax.specs.Spelling.{begins_name, is_name_byte, is_word}
-use Rattle.filter_syntax.specs.By.{Names, Joins, Begins, GoesOn, IsSyntaxFault, BeginsNoWord, before_next}
+use Rattle.filter_syntax.specs.By.{Names, Joins, Begins, GoesOn, IsSyntaxFault, before_next}
 
 abbrev pub AreWords : Names → Type 0
 AreWords names = AllByRecursion (λ name. is_word name ≡ true) names
@@ -80,7 +81,7 @@ not_lost front begins lost =
     lost_not_within (sym (run_lost begins.1) ∙ sym (ap (λ (s : Spot). run s begins.1) lost)
     ∙ sym (run-append Before front begins.1) ∙ joins_within (front ++ begins.1) begins.0 begins.2)
 
--- ---- names with a comma behind each, and one more
+-- ---- names with a comma after each, and one more
 
 join_cons : (x : List ℕ) (xs : Names) → 0 < length xs → join_with_byte 44 (x ∷ xs) ≡ x ++ (44 ∷ join_with_byte 44 xs)
 join_cons x [] some = absurd (omega arith)

@@ -9,7 +9,8 @@ use Rattle.std.proofs.lemmas.List.{append-nil, map-append, take_more}
 use denote.Ref.{Bor}
 use Rattle.std.proofs.lemmas.List.Elements.{filter-append}
 use Rattle.std.specs.Str.{bytes_eq}
-use Rattle.filter_syntax.specs.By.{Names, is_among, each_once}
+use Rattle.wire.specs.Strings.{is_among}
+use Rattle.filter_syntax.specs.By.{Names, each_once}
 
 same : (x y : List ℕ) → bytes_eq x y ≡ true → x ≡ y
 same x y is = (bytes_eq-Decides x y).0 is

@@ -4,6 +4,7 @@ use Rattle.std.proofs.Common.{sym, ap, ◌∙◌, inl, inr, ◌⊎◌, subst, tr
 use Rattle.std.proofs.lemmas.Bool.{cases_Bool}
 use Rattle.std.proofs.lemmas.List.{map-append}
 use Rattle.std.proofs.lemmas.List.Sums.{sum_by-append}
+use Rattle.grammars.specs.Places.{kinds}
 use Rattle.filter_syntax.specs.declared.tree.Cond.{Cond}
 use Rattle.filter_syntax.specs.declared.tree.Cond.TheVariants as conditions
 use Rattle.filter_syntax.specs.declared.tree.FilterValue.{FilterValue}
@@ -13,7 +14,7 @@ use Rattle.filter_syntax.specs.Grammar.{Rule, Alternatives, Conjunction, Reads, 
 use Rattle.filter_syntax.specs.Grammar.{outputs, comparison, IsValue, Text, Decimal, Parameter}
 use Rattle.filter_syntax.specs.Grammar as grammar
 use Rattle.filter_syntax.specs.Shown.{tokens_at, is_enclosed, enclosed_if, value_token, scope_token}
-use Rattle.filter_syntax.specs.Printing.{unplaced, is_open, opened, Side, OrLeft, OrRight, AndLeft, AndRight}
+use Rattle.filter_syntax.specs.Printing.{is_open, opened, Side, OrLeft, OrRight, AndLeft, AndRight}
 use Rattle.filter_syntax.specs.Printing.{TokensRead}
 use Rattle.filter_syntax.specs.Printing.{whole, operand_is_enclosed, with_bare}
 use Rattle.filter_syntax.proofs.ShownParts.{or_tokens, and_tokens, scope_tokens, is_tokens, enclosed_at, enclosed_under}
@@ -85,11 +86,11 @@ as_unit_more c = by (cases_Bool (is_enclosed Conjunction c))
 -- ---- each condition
 
 unplaced_pair : (u w : List Placed) (t : Token) (at : ℕ) → is_open t ≡ false
-    → opened (unplaced (u ++ ((t, at) ∷ w))) ≡ opened (unplaced u) + opened (unplaced w)
+    → opened (kinds (u ++ ((t, at) ∷ w))) ≡ opened (kinds u) + opened (kinds w)
 unplaced_pair u w t at not =
-    ap opened (map-append (λ (p : Placed). p.0) u ((t, at) ∷ w)) ∙ opened_pair (unplaced u) (unplaced w) t not
+    ap opened (map-append (λ (p : Placed). p.0) u ((t, at) ∷ w)) ∙ opened_pair (kinds u) (kinds w) t not
 
-unplaced_closed : (u : List Placed) (close : ℕ) → opened (unplaced (u ++ ((Close, close) ∷ []))) ≡ opened (unplaced u)
+unplaced_closed : (u : List Placed) (close : ℕ) → opened (kinds (u ++ ((Close, close) ∷ []))) ≡ opened (kinds u)
 unplaced_closed u close = omega (arith, unplaced_pair u [] Close close refl)
 
 or_count : (a b : Cond) → opened (tokens_at Alternatives (conditions.Or a b))
@@ -125,15 +126,15 @@ is_count name v t is =
     ∙ opened_other Equals (value_token v ∷ []) refl ∙ opened_other (value_token v) [] (value_other v t is)
 
 inner_count : (side : Bool) (u : List Placed) (at first close : ℕ)
-    → opened (unplaced ((scope_token side, at) ∷ (Open, first) ∷ (u ++ ((Close, close) ∷ []))))
-    ≡ 1 + opened (unplaced u)
+    → opened (kinds ((scope_token side, at) ∷ (Open, first) ∷ (u ++ ((Close, close) ∷ []))))
+    ≡ 1 + opened (kinds u)
 inner_count side u at first close =
-    let inside : List Token = unplaced (u ++ ((Close, close) ∷ [])) in
+    let inside : List Token = kinds (u ++ ((Close, close) ∷ [])) in
     let count = opened_other (scope_token side) (Open ∷ inside) (scope_token_other side) in
     omega (arith, count, opened_open inside, unplaced_closed u close)
 
 pub fewest_parentheses : (rule : Rule) (d : ℕ) (s : Bool) (u : List Placed) (c : Cond) → Reads rule d s u c
-    → opened (tokens_at rule c) ≤ opened (unplaced u)
+    → opened (tokens_at rule c) ≤ opened (kinds u)
 fewest_parentheses _ d s u c (conjunction h) =
     omega (arith, at_least Conjunction c, fewest_parentheses Conjunction d s u c h)
 fewest_parentheses _ d s _ _ (grammar.or {u = u} {w = w} {a = a} {b = b} at h k) =
@@ -158,7 +159,7 @@ fewest_parentheses _ (suc d) s _ c (parentheses {u = u} at close h) =
     omega (
       arith,
       one_more grammar.Unit c,
-      opened_open (unplaced (u ++ ((Close, close) ∷ []))),
+      opened_open (kinds (u ++ ((Close, close) ∷ []))),
       unplaced_closed u close,
       fewest_parentheses Alternatives d s u c h,
     )

@@ -5,6 +5,7 @@ use Rattle.std.proofs.Common.{sym, ap, ◌∙◌, inl, inr, subst, true≢false,
 use Rattle.std.proofs.lemmas.Bool.{cases_Bool}
 use Rattle.std.proofs.lemmas.List.{map-append}
 use Rattle.grammars.specs.Sequence.{all_joined}
+use Rattle.grammars.specs.Places.{kinds}
 use Rattle.filter_syntax.specs.declared.tree.Cond.{Cond}
 use Rattle.filter_syntax.specs.declared.tree.Cond.TheVariants as conditions
 use Rattle.filter_syntax.specs.declared.tree.FilterValue.{FilterValue}
@@ -15,7 +16,6 @@ use Rattle.filter_syntax.specs.Grammar.{Rule, Alternatives, Conjunction, Reads, 
 use Rattle.filter_syntax.specs.Grammar.{outputs, comparison, IsValue, Text, Decimal, Parameter}
 use Rattle.filter_syntax.specs.Grammar as grammar
 use Rattle.filter_syntax.specs.Shown.{tokens_at, is_enclosed, enclosed_if, value_token, scope_token}
-use Rattle.filter_syntax.specs.Printing.{unplaced}
 use Rattle.filter_syntax.proofs.Places.{replaced}
 use Rattle.filter_syntax.proofs.ShownParts.{or_tokens, and_tokens, scope_tokens, is_tokens, or_enclosed, and_enclosed}
 use Rattle.filter_syntax.proofs.ShownParts.{enclosed_at, bare_above, enclosed_under}
@@ -24,7 +24,7 @@ use Rattle.filter_syntax.proofs.ShownParts.{enclosed_at, bare_above, enclosed_un
 abbrev pub placed : List Token → List Placed
 placed tokens = map (λ (t : Token). (t, 0)) tokens
 
-pub unplaced_placed : (ts : List Token) → unplaced (placed ts) ≡ ts
+pub unplaced_placed : (ts : List Token) → kinds (placed ts) ≡ ts
 unplaced_placed [] = refl
 unplaced_placed (t ∷ ts) = ap (λ (l : List Token). t ∷ l) (unplaced_placed ts)
 
@@ -222,9 +222,9 @@ all_parts F (t ∷ a) b h = let parts = all_parts F a b h.1 in ((h.0, parts.0), 
 abbrev Fine : List Token → Type 0
 Fine tokens = AllByRecursion CanBeWritten tokens
 
-fine_parts : (u w : List Placed) → Fine (unplaced (u ++ w)) → Fine (unplaced u) × Fine (unplaced w)
+fine_parts : (u w : List Placed) → Fine (kinds (u ++ w)) → Fine (kinds u) × Fine (kinds w)
 fine_parts u w h =
-    all_parts CanBeWritten (unplaced u) (unplaced w)
+    all_parts CanBeWritten (kinds u) (kinds w)
     (subst Fine (map-append (λ (p : Placed). p.0) u w) h)
 
 fine_enclosed : (b : Bool) (ts : List Token) → Fine ts → Fine (enclosed_if b ts)
@@ -254,7 +254,7 @@ fine_scope false c h =
 
 -- The tokens that are printed can be written where those that read so can.
 pub shown_formed : (rule : Rule) (d : ℕ) (s : Bool) (u : List Placed) (c : Cond) → Reads rule d s u c
-    → Fine (unplaced u) → Fine (tokens_at rule c)
+    → Fine (kinds u) → Fine (tokens_at rule c)
 shown_formed _ d s u c (conjunction h) fine =
     fine_rules Conjunction Alternatives c (shown_formed Conjunction d s u c h fine)
 shown_formed _ d s _ _ (grammar.or {u = u} {w = w} {a = a} {b = b} at h k) fine =
@@ -282,7 +282,7 @@ shown_formed _ d s _ _ (comparison {name = name} {token = t} {value = v} at equa
 
 -- What some tokens read as, those that are printed of it do, wherever they stand.
 pub shown_again : (rule : Rule) (d : ℕ) (s : Bool) (u w : List Placed) (c : Cond) → Reads rule d s u c
-    → unplaced w ≡ tokens_at rule c → Reads rule d s w c
+    → kinds w ≡ tokens_at rule c → Reads rule d s w c
 shown_again rule d s u w c h is =
     replaced rule d s (placed (tokens_at rule c)) c (shows rule d s u c h).by_rule w
     (is ∙ sym (unplaced_placed (tokens_at rule c)))

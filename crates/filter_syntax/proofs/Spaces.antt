@@ -18,9 +18,9 @@ spaced_some : (t : Token) (ts : List Token) → spaced (t ∷ ts) ≡ 32 ∷ wri
 spaced_some t [] = ap (λ (l : List ℕ). 32 ∷ l) (append-nil (spelling t))
 spaced_some t (u ∷ ts) = ap (λ (l : List ℕ). 32 ∷ (spelling t ++ l)) (spaced_some u ts)
 
-pub behind_first : (ts : List Token) → drop 1 (spaced ts) ≡ written ts
-behind_first [] = refl
-behind_first (t ∷ ts) = ap (λ (l : List ℕ). drop 1 l) (spaced_some t ts)
+pub drop_first : (ts : List Token) → drop 1 (spaced ts) ≡ written ts
+drop_first [] = refl
+drop_first (t ∷ ts) = ap (λ (l : List ℕ). drop 1 l) (spaced_some t ts)
 
 -- ---- what can be written is text
 

@@ -4,9 +4,10 @@ use Rattle.std.proofs.Common.{get_or, arith, sym, ap, ◌∙◌, subst, append_a
 use Rattle.std.proofs.Common.{length-drop}
 use Rattle.std.proofs.lemmas.List.{append-nil, map-append, take-append-drop, drop-drop, drop_all}
 use denote.Ref.{Bor}
+use Rattle.filter_syntax.specs.Intermediate.{BeginsNoWord}
 use Rattle.filter_syntax.specs.Spelling.{is_word}
 use Rattle.filter_syntax.specs.Tokens.{IsApart}
-use Rattle.filter_syntax.specs.By.{Names, Joins, IsSyntaxFault, BeginsNoWord, before_next}
+use Rattle.filter_syntax.specs.By.{Names, Joins, IsSyntaxFault, before_next}
 use Rattle.filter_syntax.proofs.NameLists.{AreWords, joins_more, words_more, before_more, fault_before, fault_within}
 use Rattle.filter_syntax.proofs.Steps.{behind_is, byte_there}
 
@@ -50,7 +51,7 @@ module _ (text : List ℕ) (at : ℕ) (names : Names) (words : AreWords names)
         (whole ∙ ap (λ (l : List ℕ). (before_next names ++ take len (drop at text)) ++ l) byte) ends_at
         (subst IsApart byte apart) other
 
-    -- the names with this one behind them
+    -- the names with this one after them
     module _ (w : List ℕ) (after : Names) (same : w ≡ take (at + len - at) (drop at text))
         (added : after ≡ names ++ w ∷ []) where
       taken : after ≡ names ++ take len (drop at text) ∷ []

@@ -4,10 +4,11 @@ use Rattle.std.proofs.Common.{arith, refl, sym, ap, ◌∙◌, subst, ◌⊎◌,
 use Rattle.std.specs.List.{AllByRecursion}
 use Rattle.std.proofs.lemmas.Bool.{cases_eq}
 use Rattle.std.proofs.lemmas.List.{append-nil}
+use Rattle.wire.specs.Decimal.{decimal_within}
 use Rattle.filter_syntax.specs.Token.{Token, End, Bad, spelling, CanBeWritten, written}
 use Rattle.filter_syntax.specs.Tokens.{IsApart, BeginsWith, BeginsWithLongest, Placed, AreTokens, ended, blank}
 use Rattle.filter_syntax.specs.Tokens.{stopped, next}
-use Rattle.filter_syntax.specs.Lexing.{first_token, run_token, number_of}
+use Rattle.filter_syntax.specs.Lexing.{first_token, run_token}
 use Rattle.filter_syntax.specs.Laws.{TokenLaws}
 use Rattle.filter_syntax.proofs.Fronts.{leads, begins, found_longest, longest_found, longest_rest, none_begins}
 use Rattle.filter_syntax.proofs.Fronts.{spelling_some, apart_any}
@@ -67,7 +68,7 @@ same_some : (a b : Token) → ◌≡◌ {A = Option Token} (Some a) (Some b) →
 same_some a b e = cc
 
 space_first : (text : List ℕ) → first_token (32 ∷ text) ≡ None
-unfolding first_token run_token number_of
+unfolding first_token run_token decimal_within
 space_first text = refl
 
 no_token_at_space : (byte : ℕ) (text : List ℕ) (token : Token) (rest : List ℕ) → byte ≡ 32

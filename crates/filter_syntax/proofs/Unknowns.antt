@@ -9,11 +9,12 @@ use Rattle.std.specs.List.{AllByRecursion, list_all, prefix_len, take_while}
 use Rattle.filter_syntax.specs.Spelling.{begins_name, is_name_byte, is_word}
 use Rattle.filter_syntax.specs.Tokens.{IsApart}
 use Rattle.filter_syntax.specs.Attributes.{by_attributes}
-use Rattle.filter_syntax.specs.By.{Names, IsKnown, IsFirstUnknown, is_among, before_next}
+use Rattle.wire.specs.Strings.{is_among}
+use Rattle.filter_syntax.specs.By.{Names, IsKnown, IsFirstUnknown, before_next}
 use Rattle.filter_syntax.proofs.Fronts.{front_passes, behind_run}
 use Rattle.filter_syntax.proofs.WordTokens.{name_byte}
 
--- ---- a word at the front
+-- ---- a word at the start
 
 word_first : (b : ℕ) (tail : List ℕ) → begins_name b ≡ true → is_name_byte b ≡ true
     → is_word (take_while is_name_byte (b ∷ tail)) ≡ true

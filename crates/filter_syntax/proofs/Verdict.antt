@@ -7,7 +7,7 @@ use Rattle.std.proofs.lemmas.Option.{none-some, same_Some}
 use mathlib.Core.List.{append-nil}
 use Rattle.grammars.specs.Text.{next, Ended, none_in_text}
 use Rattle.grammars.specs.Outcome.{Outcome, Got, Wrong, Deep, ◌>>=◌}
-use Rattle.grammars.specs.Part.{Part, Goes, Completes, Decides}
+use Rattle.grammars.specs.Part.{Part, Goes, Decides}
 use Rattle.grammars.specs.Heads.{Turns, Nothing, decides_as, decides_nothing}
 use Rattle.grammars.specs.Bits.{Made, decides_made}
 use Rattle.grammars.specs.Whole.{AreOpen, Speaks, IsRead, Verdict, WrongAt, decides_text}
@@ -19,7 +19,7 @@ use Rattle.filter_syntax.specs.Tokens.{Placed, AreTokens}
 use Rattle.filter_syntax.specs.Tokens as tokens
 use Rattle.filter_syntax.specs.Grammar.{Alternatives, Reads}
 use Rattle.filter_syntax.specs.Descent.{unit_at, alternatives_by, ends_text, root_at}
-use Rattle.filter_syntax.specs.Texts.{has_scopes, IsFilter, IsFilterText, HasTokens, SyntaxAt, ReadsAs, kind_of, within}
+use Rattle.filter_syntax.specs.Texts.{has_scopes, IsFilter, IsFilterText, HasTokens, SyntaxAt, ReadsAs, kind_of, limited_to}
 use Rattle.filter_syntax.specs.Texts.{is_comparison}
 use Rattle.filter_syntax.proofs.Rules.{Fine, GoesOr, decides_alternatives}
 use Rattle.filter_syntax.proofs.Units.{decides_unit}
@@ -55,7 +55,7 @@ shaped_tokens at _ _ (tokens.next _ text token rest ts long behind) =
     shaped_more (token, at) ts long.begins.formed (shaped_tokens _ rest ts behind)
 
 within_shaped : (most : ℕ) (good : List Placed) (last : Placed) → AllByRecursion Fine good → ends_text last.0 ≡ true
-    → Shaped (within most (good ++ (last ∷ [])))
+    → Shaped (limited_to most (good ++ (last ∷ [])))
 within_shaped zero [] last fine ends = by_last (is_comparison last)
   where
     by_last : (b : Bool) → Shaped (cond b ((Bad, last.1) ∷ []) (last ∷ []))
@@ -66,8 +66,8 @@ within_shaped (suc most) [] last fine ends =
 within_shaped zero (p ∷ good) last fine ends =
     by_kind (is_comparison p) (within_shaped zero good last fine.1 ends)
   where
-    by_kind : (b : Bool) → Shaped (within zero (good ++ (last ∷ [])))
-        → Shaped (cond b ((Bad, p.1) ∷ []) (p ∷ within zero (good ++ (last ∷ []))))
+    by_kind : (b : Bool) → Shaped (limited_to zero (good ++ (last ∷ [])))
+        → Shaped (cond b ((Bad, p.1) ∷ []) (p ∷ limited_to zero (good ++ (last ∷ []))))
     by_kind true rest = record { good = []; last = (Bad, p.1); all = refl; fine = tt; ends = refl }
     by_kind false rest = shaped_more p _ fine.0 rest
 within_shaped (suc most) (p ∷ good) last fine ends =
@@ -76,7 +76,7 @@ within_shaped (suc most) (p ∷ good) last fine ends =
 pub shaped : (text : List ℕ) (ts : List Placed) → HasTokens text ts → Shaped ts
 shaped text ts has =
     let s = shaped_tokens 0 text has.placed has.are in
-    subst Shaped (sym (has.limited ∙ ap (within 256) s.all)) (within_shaped 256 s.good s.last s.fine s.ends)
+    subst Shaped (sym (has.limited ∙ ap (limited_to 256) s.all)) (within_shaped 256 s.good s.last s.fine s.ends)
 
 -- ---- the language
 
@@ -176,10 +176,6 @@ module _ (kind : RowKind) where
     reads_second = (refl, refl);
   })
 
-  some_root : Completes Fine Root []
-  unfolding Root
-  some_root = record { more = []; value = None; fine = tt; reads = refl }
-
   -- no condition begins with a token that ends a text
   nothing_ends : (t : Placed) → ends_text t.0 ≡ true → Turns GoesAny (Some t) Root (Nothing None)
   unfolding Root
@@ -261,7 +257,7 @@ module _ (kind : RowKind) where
       s.good s.last s.fine s.ends (root_at (has_scopes kind) (s.good ++ (s.last ∷ [])))
       (decides_root (s.good ++ (s.last ∷ []))))
 
-  -- ---- what the code tells
+  -- ---- what the code reports
 
   syntax_at : (text : List ℕ) (ts rest : List Placed) → HasTokens text ts
       → WrongAt kind_of (Ended (IsFilterText kind) End) ts rest → (p : Placed) (behind : List Placed) → rest ≡ p ∷ behind
@@ -287,7 +283,7 @@ module _ (kind : RowKind) where
       (subst (Verdict kind_of Root Root End (Ended (IsFilterText kind) End) (Ended (IsFilterText kind) End) ts) read
       (verdict text ts has)) p behind first
 
-  -- the tokens behind a filter, of which the first is not the end
+  -- the tokens after a filter, of which the first is not the end
   pub early_told : (text : List ℕ) (ts rest : List Placed) (r : Option Cond) → HasTokens text ts
       → root_at (has_scopes kind) ts ≡ Got r rest
       → (p : Placed) (behind : List Placed) → rest ≡ p ∷ behind → (p.0 ≡ End → ⊥) → SyntaxAt kind text p.1
@@ -297,7 +293,7 @@ module _ (kind : RowKind) where
       let one : h.token ≡ p = same_Some h.token p (sym (ap next h.token_first) ∙ ap next first) in
       syntax_at text ts rest has (h.wrong (λ ends. not (ap (λ (t : Placed). t.0) (sym one) ∙ ends))) p behind first
 
-  -- a filter with the end behind it
+  -- a filter with the end after it
   pub whole_told : (text : List ℕ) (ts rest : List Placed) (r : Option Cond) → HasTokens text ts
       → root_at (has_scopes kind) ts ≡ Got r rest
       → (p : Placed) (behind : List Placed) → rest ≡ p ∷ behind → p.0 ≡ End → ReadsAs kind text r
@@ -431,7 +427,7 @@ module _ (kind : RowKind) where
       let tokens : h.tokens ≡ k.tokens = same_init h.tokens k.tokens (End, h.end) (End, k.end) same in
       (tokens, one.1 a h.reads ∙ sym (one.1 b (subst (λ u. IsFilter kind u b) (sym tokens) k.reads)))
 
-  -- what stands at the front of a text's tokens: a filter and the end, or a fault
+  -- what stands at the start of a text's tokens: a filter and the end, or a fault
   pub some_reading : (text : List ℕ) (ts : List Placed) → HasTokens text ts
       → ((r : Option Cond) × ReadsAs kind text r) ⊎ ((at : ℕ) × SyntaxAt kind text at)
   some_reading text ts has = by_outcome (root_at (has_scopes kind) ts) refl (verdict text ts has)

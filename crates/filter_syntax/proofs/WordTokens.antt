@@ -1,5 +1,5 @@
 -- The token of a word, and what it is written with.
-use Rattle.std.proofs.Common.{◌≡◌, ◌≢◌, ℕ, ◌<◌, ◌||◌, Bool, true, false, cond, List, [], ◌∷◌, length, Option, Some}
+use Rattle.std.proofs.Common.{◌≡◌, ◌≢◌, ℕ, ◌<◌, ◌||◌, Bool, true, false, List, [], ◌∷◌, length, Option, Some}
 use Rattle.std.proofs.Common.{None, arith, refl, sym, ap, ◌∙◌, subst, ◌^◌, ◌⊎◌, inl, inr}
 use Rattle.std.proofs.lemmas.Fmt.{decimal_nonempty}
 use Rattle.std.specs.Prelude.{codes, ◌==◌}
@@ -9,10 +9,11 @@ use Rattle.std.proofs.lemmas.Bool.{cond_both, cond-true, cond-false, and_parts, 
 use Rattle.std.specs.List.{list_all}
 use Rattle.std.specs.Int.{is_in_range}
 use Rattle.std.specs.Str.{bytes_eq}
+use Rattle.wire.specs.Spelling.{greatest}
+use Rattle.wire.specs.Decimal.{decimal_within}
 use Rattle.filter_syntax.specs.Spelling.{begins_name, is_name_byte, is_word, IsName}
 use Rattle.filter_syntax.specs.Token.{Token, And, Or, Inputs, Outputs, Name, Number, spelling, CanBeWritten}
-use Rattle.filter_syntax.specs.Tokens.{MayPrecede}
-use Rattle.filter_syntax.specs.Lexing.{word_token, run_token, number_of}
+use Rattle.filter_syntax.specs.Lexing.{word_token, run_token}
 use Rattle.filter_syntax.proofs.Numbers.{chosen, number_is}
 
 same : (w v : List ℕ) → bytes_eq w v ≡ true → v ≡ w
@@ -20,12 +21,6 @@ same w v is = sym ((bytes_eq-Decides w v).0 is)
 
 other : (w v : List ℕ) → bytes_eq w v ≡ false → w ≢ v
 other w v is = λ e. false≢true (sym is ∙ (bytes_eq-Decides w v).1 e)
-
--- a choice of four words, and else a name
-abbrev choice : List ℕ → Token
-choice w = cond (bytes_eq w (codes "AND")) And
-    (cond (bytes_eq w (codes "OR")) Or (cond (bytes_eq w (codes "inputs")) Inputs
-    (cond (bytes_eq w (codes "outputs")) Outputs (Name w))))
 
 by_choice : (w : List ℕ) (P : Token → Type 0)
     → (codes "AND" ≡ w → P And) → (codes "OR" ≡ w → P Or) → (codes "inputs" ≡ w → P Inputs)
@@ -46,9 +41,6 @@ word_spelled w = by_choice w (λ t. spelling t ≡ w) (λ e. e) (λ e. e) (λ e.
 pub word_formed : (w : List ℕ) → is_word w ≡ true → CanBeWritten (word_token w)
 word_formed w is = by_choice w CanBeWritten (λ _. tt) (λ _. tt) (λ _. tt) (λ _. tt)
     (λ a b c d. record { formed = is; not_and = a; not_or = b; not_inputs = c; not_outputs = d })
-
-pub word_free : (w rest : List ℕ) → MayPrecede (word_token w) rest
-word_free w rest = by_choice w (λ t. MayPrecede t rest) (λ _. tt) (λ _. tt) (λ _. tt) (λ _. tt) (λ _ _ _ _. tt)
 
 pub name_again : (w : List ℕ) → IsName w → word_token w ≡ Name w
 name_again w name = by_choice w (λ t. t ≡ Name w)
@@ -102,16 +94,16 @@ option_map_some f None y is = cc
 
 pub run_is : (run : List ℕ) (token : Token) → run_token run ≡ Some token → IsRun run token
 unfolding run_token
-run_is run token is = by (chosen (is_word run) (Some (word_token run)) (option_map Number (number_of run))
+run_is run token is = by (chosen (is_word run) (Some (word_token run)) (option_map Number (decimal_within greatest run))
     (Some token) is)
   where
     by_word : is_word run ≡ true → word_token run ≡ token → IsRun run token
     by_word word same = subst (λ (t : Token). IsRun run t) same
         (record { spelled = word_spelled run; formed = word_formed run word; some = word_some run word })
 
-    by_number : option_map Number (number_of run) ≡ Some token → IsRun run token
+    by_number : option_map Number (decimal_within greatest run) ≡ Some token → IsRun run token
     by_number some =
-        let found = option_map_some Number (number_of run) token some in
+        let found = option_map_some Number (decimal_within greatest run) token some in
         let number = number_is run found.0 found.1 in
         let low : found.0 < 2 ^ 64 = omega (arith, number.0) in
         subst (λ (t : Token). IsRun run t) found.2
@@ -123,21 +115,21 @@ run_is run token is = by (chosen (is_word run) (Some (word_token run)) (option_m
         })
 
     by : ((is_word run ≡ true) × (Some (word_token run) ≡ Some token)) ⊎
-        ((is_word run ≡ false) × (option_map Number (number_of run) ≡ Some token)) → IsRun run token
+        ((is_word run ≡ false) × (option_map Number (decimal_within greatest run) ≡ Some token)) → IsRun run token
     by (inl w) = by_word w.0 (cc)
     by (inr n) = by_number n.1
 
 -- A run that is a word is read as the word, and one that is a number as the number.
 pub word_run : (run : List ℕ) → is_word run ≡ true → run_token run ≡ Some (word_token run)
 unfolding run_token
-word_run run is = cond-true (is_word run) (Some (word_token run)) (option_map Number (number_of run)) is
+word_run run is = cond-true (is_word run) (Some (word_token run)) (option_map Number (decimal_within greatest run)) is
 
-pub number_run : (run : List ℕ) (n : ℕ) → is_word run ≡ false → number_of run ≡ Some n → run_token run ≡ Some (Number n)
+pub number_run : (run : List ℕ) (n : ℕ) → is_word run ≡ false → decimal_within greatest run ≡ Some n → run_token run ≡ Some (Number n)
 unfolding run_token
 number_run run n not is =
-    cond-false (is_word run) (Some (word_token run)) (option_map Number (number_of run)) not ∙ ap (option_map Number) is
+    cond-false (is_word run) (Some (word_token run)) (option_map Number (decimal_within greatest run)) not ∙ ap (option_map Number) is
 
-pub no_run : (run : List ℕ) → is_word run ≡ false → number_of run ≡ None → run_token run ≡ None
+pub no_run : (run : List ℕ) → is_word run ≡ false → decimal_within greatest run ≡ None → run_token run ≡ None
 unfolding run_token
 no_run run not is =
-    cond-false (is_word run) (Some (word_token run)) (option_map Number (number_of run)) not ∙ ap (option_map Number) is
+    cond-false (is_word run) (Some (word_token run)) (option_map Number (decimal_within greatest run)) not ∙ ap (option_map Number) is

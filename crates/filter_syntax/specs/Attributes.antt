@@ -1,4 +1,4 @@
--- The attributes of rows.
+-- The attributes of rows. Public statements name it.
 use Rattle.std.specs.Prelude.{ℕ, Bool, true, false, List, [], ◌∷◌, Option, Some, None, codes}
 use Rattle.filter_syntax.specs.declared.tree.RowKind.{RowKind}
 use Rattle.filter_syntax.specs.declared.tree.RowKind.TheVariants.{Transactions, Outputs, Assets}

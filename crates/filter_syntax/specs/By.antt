@@ -1,9 +1,10 @@
--- Lists of attribute names, joined by commas.
-use Rattle.std.specs.Prelude.{◌≡◌, ℕ, ◌<◌, Bool, false, not, List, [], ◌∷◌, ◌++◌, length, IsTrue, filter}
+-- Lists of attribute names, joined by commas. Public statements name it.
+use Rattle.std.specs.Prelude.{◌≡◌, ℕ, ◌<◌, not, List, [], ◌∷◌, ◌++◌, length, IsTrue, filter}
 use Rattle.std.specs.Prelude.{Result, Ok, Err}
-use Rattle.std.specs.List.{AllByRecursion, flat_map, join_with_byte, list_any}
+use Rattle.std.specs.List.{AllByRecursion, flat_map, join_with_byte}
 use Rattle.std.specs.Str.{bytes_eq}
-use Rattle.filter_syntax.specs.Spelling.{begins_name, is_word}
+use Rattle.wire.specs.Strings.{is_among}
+use Rattle.filter_syntax.specs.Spelling.{is_word}
 use Rattle.filter_syntax.specs.Attributes.{by_attributes}
 use Rattle.filter_syntax.specs.declared.fault.FilterFault.{FilterFault}
 use Rattle.filter_syntax.specs.declared.fault.FilterFault.TheVariants.{Syntax, UnknownAttribute, NoMemory}
@@ -21,12 +22,12 @@ pub record Joins (text : List ℕ) (names : Names) : Type 0 where
 abbrev pub Begins : List ℕ → Type 0
 Begins front = (names : Names) × (behind : List ℕ) × Joins (front ++ behind) names
 
--- Some such text begins with the front, and goes on as the rest does: it ends there too, or has the rest's first byte.
+-- Some such text begins with the prefix, and goes on as the rest does: it ends there too, or has the rest's first byte.
 abbrev pub GoesOn : List ℕ → List ℕ → Type 0
 GoesOn front [] = (names : Names) × Joins front names
 GoesOn front (byte ∷ rest) = Begins (front ++ byte ∷ [])
 
--- The place of the first byte, or of the end, with which no such text goes on behind the same bytes.
+-- The place of the first byte, or of the end, with which no such text goes on after the same bytes.
 pub record IsSyntaxFault (text : List ℕ) (at : ℕ) : Type 0 where
   pub front : List ℕ
   pub rest : List ℕ
@@ -35,19 +36,10 @@ pub record IsSyntaxFault (text : List ℕ) (at : ℕ) : Type 0 where
   pub begins : Begins front
   pub ends : ¬ GoesOn front rest
 
--- It begins with no letter and no `_`.
-abbrev pub BeginsNoWord : List ℕ → Type 0
-BeginsNoWord [] = Unit {0}
-BeginsNoWord (byte ∷ rest) = begins_name byte ≡ false
-
--- one of these names
-abbrev pub is_among : Names → List ℕ → Bool
-is_among names name = list_any (λ other. bytes_eq other name) names
-
 abbrev pub IsKnown : List ℕ → Type 0
 IsKnown name = IsTrue (is_among by_attributes name)
 
--- names with a comma behind each
+-- names with a comma after each
 abbrev pub before_next : Names → List ℕ
 before_next names = flat_map (λ name. name ++ 44 ∷ []) names
 
@@ -85,9 +77,3 @@ AnswersBy text (Ok by) = IsBy text by
 AnswersBy text (Err (Syntax at)) = IsSyntaxFault text at
 AnswersBy text (Err (UnknownAttribute at)) = IsUnknownFault text at
 AnswersBy text (Err NoMemory) = ⊥
-
--- The same of the names before they are known: a place where the text goes wrong, or want of memory.
-abbrev pub SplitFault : List ℕ → FilterFault → Type 0
-SplitFault text (Syntax at) = IsSyntaxFault text at
-SplitFault text (UnknownAttribute at) = ⊥
-SplitFault text NoMemory = Unit {0}

@@ -1,4 +1,4 @@
--- The attributes that a condition compares, and the first unknown one of them.
+-- The attributes that a condition compares, and the first unknown one of them. Public statements name it.
 use Rattle.std.specs.Prelude.{◌≡◌, ℕ, Bool, List, [], ◌∷◌, ◌++◌, length, IsTrue, Option, Some, None, filter_map}
 use Rattle.std.specs.List.{AllByRecursion}
 use Rattle.filter_syntax.specs.declared.tree.RowKind.{RowKind}
@@ -8,7 +8,7 @@ use Rattle.filter_syntax.specs.declared.tree.Cond.TheFolds.{fold-Cond}
 use Rattle.filter_syntax.specs.Token.{Name}
 use Rattle.filter_syntax.specs.Tokens.{Placed}
 use Rattle.filter_syntax.specs.Attributes.{attributes}
-use Rattle.filter_syntax.specs.By.{is_among}
+use Rattle.wire.specs.Strings.{is_among}
 
 -- an attribute, and the scope that it stands in: none, `inputs(..)` (`Some true`) or `outputs(..)` (`Some false`)
 abbrev pub Compared : Type 0
@@ -28,11 +28,6 @@ comparisons scope condition = fold-Cond (Option Bool → List Compared) comparis
 -- Rows of the kind have the attribute in that scope.
 abbrev pub IsKnown : RowKind → Compared → Type 0
 IsKnown kind compared = IsTrue (is_among (attributes kind compared.0) compared.1)
-
--- The attributes are known, and so many.
-pub record AllKnown (kind : RowKind) (compared : List Compared) (count : ℕ) : Type 0 where
-  pub known : AllByRecursion (IsKnown kind) compared
-  pub number : count ≡ length compared
 
 -- The first unknown one of the attributes has this index, from 0.
 pub record FirstUnknown (kind : RowKind) (compared : List Compared) (index : ℕ) : Type 0 where

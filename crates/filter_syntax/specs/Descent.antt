@@ -94,7 +94,7 @@ pub record GoesOn (on : Placed → Bool) (ts behind : List Placed) : Type 0 wher
   pub goes : on token ≡ true
   pub first : ts ≡ token ∷ behind
 
--- a token of which this holds comes next, and these are the tokens behind it; or none does
+-- a token of which this holds comes next, and these are the tokens after it; or none does
 abbrev pub Follows : (Placed → Bool) → List ℕ → List Lexeme → Option (Bor (List Lexeme)) → Type 0
 Follows on text rest None = Stops on (map (seen text) rest)
 Follows on text rest (Some behind) = GoesOn on (map (seen text) rest) (map (seen text) behind.now)

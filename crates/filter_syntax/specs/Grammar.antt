@@ -1,4 +1,4 @@
--- The grammar of filters, over tokens with their places.
+-- The grammar of filters, over tokens with their places. Public statements name it.
 use Rattle.std.specs.Prelude.{ℕ, suc, Bool, true, false, List, [], ◌∷◌, ◌++◌}
 use Rattle.filter_syntax.specs.declared.tree.Cond.{Cond}
 use Rattle.filter_syntax.specs.declared.tree.Cond.TheVariants as conditions

@@ -1,9 +1,10 @@
--- What holds of tokens and of lists of names.
+-- What holds of tokens and of lists of names. Public statements name it.
 use Rattle.std.specs.Prelude.{◌≡◌, ℕ, List, [], ◌∷◌, ◌++◌, map, Result, IsFalse}
 use Rattle.std.specs.List.{AllByRecursion}
 use Rattle.filter_syntax.specs.Token.{Token, End, CanBeWritten, written}
 use Rattle.filter_syntax.specs.Tokens.{Placed, AreTokens}
-use Rattle.filter_syntax.specs.By.{Names, AnswersBy, each_once, is_among}
+use Rattle.wire.specs.Strings.{is_among}
+use Rattle.filter_syntax.specs.By.{Names, AnswersBy, each_once}
 use Rattle.filter_syntax.specs.declared.fault.FilterFault.{FilterFault}
 
 pub record TokenLaws : Type 0 where

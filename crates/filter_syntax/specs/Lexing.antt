@@ -1,12 +1,12 @@
 -- The longest token of a text, found from its first byte on. Only contracts of private functions name it.
-use Rattle.std.specs.Prelude.{◌≡◌, ℕ, ◌-◌, ◌^◌, ◌≤◌, ◌==◌, ◌&&◌, ◌||◌, Bool, false, List, [], ◌∷◌, length, take, drop}
+use Rattle.std.specs.Prelude.{◌≡◌, ℕ, ◌-◌, ◌≤◌, ◌==◌, ◌&&◌, List, [], ◌∷◌, length, take, drop}
 use Rattle.std.specs.Prelude.{codes}
-use Rattle.std.specs.Prelude.{Option, Some, None, option_and_then, if◌then◌else◌, nat_le, nat_lt, slice_range}
+use Rattle.std.specs.Prelude.{Option, Some, None, option_and_then, if◌then◌else◌, nat_le, slice_range}
 use Rattle.std.specs.Option.{option_map}
-use Rattle.std.specs.List.{list_all, prefix_len, take_while}
-use Rattle.std.specs.Char.{is_ascii_digit}
+use Rattle.std.specs.List.{prefix_len, take_while}
 use Rattle.std.specs.Str.{bytes_eq}
-use Rattle.std.specs.Str.Parse.{digits_value}
+use Rattle.wire.specs.Spelling.{greatest}
+use Rattle.wire.specs.Decimal.{decimal_within}
 use Rattle.filter_syntax.specs.Spelling.{is_name_byte, is_word, is_quotable}
 use Rattle.filter_syntax.specs.Token.{Token, Open, Close, Equals, And, Or, Inputs, Outputs, Name, Quoted, Number, Param}
 use Rattle.filter_syntax.specs.Token.{End, Bad, spelling}
@@ -19,20 +19,6 @@ use Rattle.filter_syntax.specs.declared.tokens.Kind.TheVariants as kinds
 abbrev pub run_of : List ℕ → List ℕ
 run_of text = take_while is_name_byte text
 
--- `0`, or digits that begin with 1 to 9
-abbrev pub is_decimal : List ℕ → Bool
-is_decimal [] = false
-is_decimal (first ∷ rest) = ((first == 48) && (length rest == 0))
-    || (nat_le 49 first && nat_le first 57 && list_all is_ascii_digit rest)
-
--- a number of at most 2^63 - 1
-abbrev pub small : ℕ → Option ℕ
-small n = if nat_lt n (2 ^ 63) then Some n else None
-
--- the number that the bytes are
-unfoldable pub number_of : List ℕ → Option ℕ
-number_of bytes = if is_decimal bytes then small (digits_value 10 bytes) else None
-
 -- the token of a word
 unfoldable pub word_token : List ℕ → Token
 word_token word =
@@ -43,16 +29,16 @@ word_token word =
 
 -- the token of a whole run: a word or a number
 unfoldable pub run_token : List ℕ → Option Token
-run_token run = if is_word run then Some (word_token run) else option_map Number (number_of run)
+run_token run = if is_word run then Some (word_token run) else option_map Number (decimal_within greatest run)
 
 -- the token of a `$` and a whole run
 abbrev pub numbered : ℕ → Option Token
 numbered n = if nat_le 1 n && nat_le n 99 then Some (Param n) else None
 
 unfoldable pub param_token : List ℕ → Option Token
-param_token run = option_and_then numbered (number_of run)
+param_token run = option_and_then numbered (decimal_within greatest run)
 
--- the token of a `'` and what stands behind it
+-- the token of a `'` and what stands after it
 abbrev pub closed : List ℕ → List ℕ → Option Token
 closed text [] = None
 closed text (byte ∷ rest) = if byte == 39 then Some (Quoted text) else None

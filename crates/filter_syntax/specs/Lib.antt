@@ -10,6 +10,7 @@ pub mod Descent
 pub mod Texts
 pub mod Limiting
 pub mod Compared
+pub mod Intermediate
 pub mod Shown
 pub mod Spaced
 pub mod Printing

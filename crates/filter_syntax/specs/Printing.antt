@@ -1,6 +1,7 @@
--- What holds of the tokens that filters are printed with.
-use Rattle.std.specs.Prelude.{◌≡◌, ◌↔◌, ℕ, ◌≤◌, Bool, true, false, List, [], ◌∷◌, ◌++◌, map, count_by}
+-- What holds of the tokens that filters are printed with. Public statements name it.
+use Rattle.std.specs.Prelude.{◌≡◌, ◌↔◌, ℕ, ◌≤◌, Bool, true, false, List, [], ◌∷◌, ◌++◌, count_by}
 use Rattle.std.specs.List.{AllByRecursion}
+use Rattle.grammars.specs.Places.{kinds}
 use Rattle.filter_syntax.specs.declared.tree.Cond.{Cond}
 use Rattle.filter_syntax.specs.declared.tree.Cond.TheVariants as conditions
 use Rattle.filter_syntax.specs.Token.{Token, Open, Close, And, Or, Name, End, CanBeWritten, written}
@@ -8,10 +9,6 @@ use Rattle.filter_syntax.specs.Tokens.{Placed, AreTokens}
 use Rattle.filter_syntax.specs.Grammar.{Rule, Alternatives, Conjunction, Reads}
 use Rattle.filter_syntax.specs.Grammar as grammar
 use Rattle.filter_syntax.specs.Shown.{tokens_at, is_enclosed}
-
--- tokens without their places
-abbrev pub unplaced : List Placed → List Token
-unplaced placed = map (λ p. p.0) placed
 
 abbrev pub is_open : Token → Bool
 is_open Open = true
@@ -34,7 +31,7 @@ compared tokens = count_by is_attribute tokens
 pub record TokensRead (rule : Rule) (scopes : Bool) (tokens : List Token) (condition : Cond) : Type 0 where
   pub depth : ℕ
   pub placed : List Placed
-  pub same : unplaced placed ≡ tokens
+  pub same : kinds placed ≡ tokens
   pub reads : Reads rule depth scopes placed condition
 
 -- The tokens of this text, up to its end, read as this condition.
@@ -74,21 +71,21 @@ pub record PrintLaws : Type 0 where
   -- and scopes.
   pub again : (rule : Rule) (depth : ℕ) (scopes : Bool) (u w : List Placed) (c : Cond)
       → Reads rule depth scopes u c
-      → unplaced w ≡ tokens_at rule c
+      → kinds w ≡ tokens_at rule c
       → Reads rule depth scopes w c
   -- They can be written where those can.
   pub formed : (rule : Rule) (depth : ℕ) (scopes : Bool) (u : List Placed) (c : Cond)
       → Reads rule depth scopes u c
-      → AllByRecursion CanBeWritten (unplaced u)
+      → AllByRecursion CanBeWritten (kinds u)
       → AllByRecursion CanBeWritten (tokens_at rule c)
   -- They have as many comparisons.
   pub as_many : (rule : Rule) (depth : ℕ) (scopes : Bool) (u : List Placed) (c : Cond)
       → Reads rule depth scopes u c
-      → compared (tokens_at rule c) ≡ compared (unplaced u)
+      → compared (tokens_at rule c) ≡ compared (kinds u)
   -- So their text reads as the same condition.
   pub text : (depth : ℕ) (scopes : Bool) (u : List Placed) (c : Cond)
       → Reads Alternatives depth scopes u c
-      → AllByRecursion CanBeWritten (unplaced u)
+      → AllByRecursion CanBeWritten (kinds u)
       → TextReads depth scopes (written (tokens_at Alternatives c)) c
   -- Tokens are one condition at most.
   pub one : (depth other : ℕ) (scopes : Bool) (u : List Placed) (a b : Cond)
@@ -98,7 +95,7 @@ pub record PrintLaws : Type 0 where
   -- No tokens with fewer parentheses read as the condition.
   pub fewest : (rule : Rule) (depth : ℕ) (scopes : Bool) (u : List Placed) (c : Cond)
       → Reads rule depth scopes u c
-      → opened (tokens_at rule c) ≤ opened (unplaced u)
+      → opened (tokens_at rule c) ≤ opened (kinds u)
   -- So none of those that are printed can be left out, whichever `(` and `)` they are and however deep they stand.
   pub needed : (scopes : Bool) (c : Cond) (before between behind : List Token)
       → tokens_at Alternatives c ≡ before ++ (Open ∷ (between ++ (Close ∷ behind)))

@@ -1,4 +1,4 @@
--- The tokens that a filter is printed with.
+-- The tokens that a filter is printed with. Public statements name it.
 use Rattle.std.specs.Prelude.{Bool, true, false, List, [], ◌∷◌, ◌++◌, Option, Some, None}
 use Rattle.filter_syntax.specs.declared.tree.Cond.{Cond, out-Cond}
 use Rattle.filter_syntax.specs.declared.tree.Cond.TheOpen.{Cond-F}

@@ -1,4 +1,4 @@
--- Tokens that follow others in a text.
+-- Tokens that follow others in a text. Only contracts of private functions name it.
 use Rattle.std.specs.Prelude.{ℕ, List, ◌∷◌}
 use Rattle.std.specs.List.{flat_map}
 use Rattle.filter_syntax.specs.Token.{Token, spelling}

@@ -1,4 +1,4 @@
--- The bytes of words, of quoted texts and of numbers.
+-- The bytes of words, of quoted texts and of numbers. Public statements name it.
 use Rattle.std.specs.Prelude.{◌≢◌, ℕ, ◌==◌, ◌&&◌, ◌||◌, not, Bool, false, List, [], ◌∷◌, IsTrue, codes}
 use Rattle.std.specs.List.{list_all}
 use Rattle.std.specs.Char.{is_ascii_alphabetic, is_ascii_alphanumeric}

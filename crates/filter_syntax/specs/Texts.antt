@@ -1,4 +1,4 @@
--- Which texts are filters, and the first token with which none begins.
+-- Which texts are filters, and the first token with which none begins. Public statements name it.
 use Rattle.std.specs.Prelude.{◌≡◌, ℕ, zero, suc, Bool, true, false, List, [], ◌∷◌, ◌++◌, map, cond, Option, Some}
 use Rattle.std.specs.Prelude.{None, Result, Ok, Err}
 use Rattle.std.specs.Prelude.{slice_get}
@@ -44,17 +44,17 @@ abbrev pub is_comparison : Placed → Bool
 is_comparison (Name name, at) = true
 is_comparison _ = false
 
--- The first token of a comparison past so many counts as bytes with which no token begins, and nothing stands behind.
-abbrev pub within : ℕ → List Placed → List Placed
-within most [] = []
-within zero (p ∷ ps) = cond (is_comparison p) ((Bad, p.1) ∷ []) (p ∷ within zero ps)
-within (suc most) (p ∷ ps) = p ∷ within (cond (is_comparison p) most (suc most)) ps
+-- The first token of a comparison past so many counts as bytes with which no token begins, and nothing stands after it.
+abbrev pub limited_to : ℕ → List Placed → List Placed
+limited_to most [] = []
+limited_to zero (p ∷ ps) = cond (is_comparison p) ((Bad, p.1) ∷ []) (p ∷ limited_to zero ps)
+limited_to (suc most) (p ∷ ps) = p ∷ limited_to (cond (is_comparison p) most (suc most)) ps
 
 -- The text's tokens, cut at the first token of its 257th comparison, which is Bad there.
 pub record HasTokens (text : List ℕ) (tokens : List Placed) : Type 0 where
   pub placed : List Placed
   pub are : AreTokens 0 text placed
-  pub limited : tokens ≡ within 256 placed
+  pub limited : tokens ≡ limited_to 256 placed
 
 -- With the token at this place, the end of the text or a comparison past the 256th among them, no filter of the kind
 -- begins that has the same tokens before it; and one begins with those.
@@ -92,7 +92,7 @@ pub record UnknownAt (kind : RowKind) (text : List ℕ) (at : ℕ) : Type 0 wher
 
 -- ---- answers
 
--- what is to be answered for a text; nothing is said of want of memory
+-- what is to be answered for a text; nothing is said of where memory runs out
 abbrev pub AnswersFilter : RowKind → List ℕ → Result Filter FilterFault → Type 0
 AnswersFilter kind text (Ok filter) = (filter.kind ≡ kind) × ReadsAs kind text filter.root × AreKnown kind filter.root
 AnswersFilter kind text (Err (faults.Syntax at)) = SyntaxAt kind text at

@@ -1,4 +1,4 @@
--- The tokens of filters, and the bytes that each of them is written with.
+-- The tokens of filters, and the bytes that each of them is written with. Public statements name it.
 use Rattle.std.specs.Prelude.{ℕ, ◌^◌, ◌<◌, ◌≤◌, List, [], ◌∷◌, ◌++◌, IsTrue, codes, decimal}
 use Rattle.std.specs.List.{list_all}
 use Rattle.filter_syntax.specs.Spelling.{is_quotable, IsName}

@@ -1,4 +1,4 @@
--- Which tokens a text has, and where each of them begins.
+-- Which tokens a text has, and where each of them begins. Public statements name it.
 use Rattle.std.specs.Prelude.{◌≡◌, ◌≢◌, ℕ, ◌+◌, ◌≤◌, false, List, [], ◌∷◌, ◌++◌, length}
 use Rattle.filter_syntax.specs.Spelling.{is_name_byte}
 use Rattle.filter_syntax.specs.Token.{Token, Number, Param, End, Bad, spelling, CanBeWritten}
@@ -39,7 +39,7 @@ Placed = Token × ℕ
 pub data AreTokens : (at : ℕ) → (text : List ℕ) → (tokens : List Placed) → Type 0 where
   -- a text of no bytes: its end
   ended : (at : ℕ) → AreTokens at [] ((End, at) ∷ [])
-  -- a space: the tokens behind it
+  -- a space: the tokens after it
   blank : (at byte : ℕ) (text : List ℕ) (tokens : List Placed)
       → byte ≡ 32
       → AreTokens (at + 1) text tokens
@@ -49,7 +49,7 @@ pub data AreTokens : (at : ℕ) → (text : List ℕ) → (tokens : List Placed)
       → byte ≢ 32
       → BeginsWithNone (byte ∷ text)
       → AreTokens at (byte ∷ text) ((Bad, at) ∷ [])
-  -- the longest token, and the tokens behind it
+  -- the longest token, and the tokens after it
   next : (at : ℕ) (text : List ℕ) (token : Token) (rest : List ℕ) (tokens : List Placed)
       → BeginsWithLongest text token rest
       → AreTokens (at + length (spelling token)) rest tokens

@@ -2,10 +2,11 @@
 ghost use Rattle.std.specs.Prelude.{◌≡◌, ℕ, ◌+◌, ◌<◌, ◌^◌, List, length, map, slice_get};
 ghost use Rattle.std.specs.Prelude.{None, IfOk, IfErr, IfSome, IfNone};
 ghost use Rattle.std.specs.List.{AllByRecursion};
+ghost use Rattle.filter_syntax.specs.Intermediate.{AllKnown};
 ghost use Rattle.filter_syntax.specs.Attributes.{attributes};
-ghost use Rattle.filter_syntax.specs.By.{is_among};
+ghost use Rattle.wire.specs.Strings.{is_among};
 ghost use Rattle.filter_syntax.specs.Lexing.{seen};
-ghost use Rattle.filter_syntax.specs.Compared.{comparisons, IsKnown, FirstUnknown, places_of_names, AllKnown};
+ghost use Rattle.filter_syntax.specs.Compared.{comparisons, IsKnown, FirstUnknown, places_of_names};
 
 use crate::by::{self, is_one_of};
 use crate::tokens::{Kind, Lexeme};

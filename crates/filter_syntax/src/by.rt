@@ -3,11 +3,13 @@ ghost use Rattle.std.specs.Prelude.{◌≡◌, ◌≢◌, ℕ, ◌<◌, ◌≤�
 ghost use Rattle.std.specs.Prelude.{Result, Ok, Err, IfOk, IfErr, IfSome, IfNone};
 ghost use Rattle.std.specs.List.{AllByRecursion, list_any};
 ghost use Rattle.std.specs.Str.{bytes_eq};
+ghost use Rattle.filter_syntax.specs.Intermediate.{BeginsNoWord, SplitFault};
 ghost use Rattle.filter_syntax.specs.Spelling.{is_word};
 ghost use Rattle.filter_syntax.specs.Tokens.{IsApart};
 ghost use Rattle.filter_syntax.specs.Attributes.{by_attributes};
-ghost use Rattle.filter_syntax.specs.By.{Names, Joins, IsBy, IsSyntaxFault, IsUnknownFault, AnswersBy, BeginsNoWord};
-ghost use Rattle.filter_syntax.specs.By.{IsKnown, IsFirstUnknown, is_among, each_once, before_next, SplitFault};
+ghost use Rattle.filter_syntax.specs.By.{Names, Joins, IsBy, IsSyntaxFault, IsUnknownFault, AnswersBy};
+ghost use Rattle.wire.specs.Strings.{is_among};
+ghost use Rattle.filter_syntax.specs.By.{IsKnown, IsFirstUnknown, each_once, before_next};
 ghost use Rattle.filter_syntax.specs.declared.fault.FilterFault.{FilterFault};
 ghost use Rattle.filter_syntax.specs.declared.fault.FilterFault.TheVariants as faults;
 
@@ -50,7 +52,7 @@ pub fn parse_by(alloc: Global, text: &str) -> Result<By, FilterFault>
     ensures syntax { (at : ℕ) → result ≡ Err (faults.Syntax at) → IsSyntaxFault text.now at }
     ensures unknown { (at : ℕ) → result ≡ Err (faults.UnknownAttribute at) → IsUnknownFault text.now at }
 
-    // What the text is read as is told, unless memory runs out.
+    // What the text is read as is reported, unless memory runs out.
     ensures told { (answer : Result Names FilterFault)
         → AnswersBy text.now answer
         → result ≢ Err faults.NoMemory

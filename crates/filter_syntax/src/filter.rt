@@ -6,11 +6,11 @@ ghost use Rattle.filter_syntax.specs.declared.fault.FilterFault.TheVariants as f
 ghost use Rattle.filter_syntax.specs.Texts.{AnswersFilter, SyntaxAt, UnknownAt, ReadsAs, AreKnown};
 ghost use Rattle.filter_syntax.specs.Lexing.{seen};
 ghost use Rattle.filter_syntax.specs.Descent.{Agrees, root_at};
-ghost use Rattle.filter_syntax.specs.Texts.{within, HasTokens, has_scopes};
+ghost use Rattle.filter_syntax.specs.Texts.{limited_to, HasTokens, has_scopes};
 ghost use Rattle.filter_syntax.specs.Limiting.{IsLimited, ReadsOr, AnswersOr, Closes, IsSyntaxOf};
 
 use crate::attributes::{first_unknown, nth_name};
-use crate::parser::{Read, Stop, alternatives};
+use crate::parser::{Parsed, Stop, alternatives};
 use crate::tokens::{Kind, Lexeme, mark, tokenize};
 use crate::{Cond, Filter, FilterFault, RowKind, laws};
 use std::alloc::Global;
@@ -32,30 +32,30 @@ pub fn parse_filter(alloc: Global, kind: RowKind, text: &str) -> Result<Filter, 
     ensures syntax { (at : ℕ) → result ≡ Err (faults.Syntax at) → SyntaxAt kind text.now at }
     ensures unknown { (at : ℕ) → result ≡ Err (faults.UnknownAttribute at) → UnknownAt kind text.now at }
 
-    // What the text is read as is told, unless memory runs out.
+    // What the text is read as is reported, unless memory runs out.
     ensures told { (answer : Result Filter FilterFault)
         → AnswersFilter kind text.now answer
         → result ≢ Err faults.NoMemory
         → result ≡ answer }
 {
     laws::filters();
-    answer(alloc, kind, text.as_bytes())
+    parse_bytes(alloc, kind, text.as_bytes())
 }
 
 // The filter of a text, or its fault.
-fn answer(alloc: Global, kind: RowKind, text: &[u8]) -> Result<Filter, FilterFault>
+fn parse_bytes(alloc: Global, kind: RowKind, text: &[u8]) -> Result<Filter, FilterFault>
     ensures { AnswersOr kind text.now result }
 {
-    let lexemes = limited(alloc, text)?;
-    let root = read(alloc, kind, text, &lexemes)?;
-    match unknown(kind, text, &root, &lexemes) {
+    let lexemes = limited_tokens(alloc, text)?;
+    let root = parse_tokens(alloc, kind, text, &lexemes)?;
+    match unknown_place(kind, text, &root, &lexemes) {
         Some(at) => Err(FilterFault::UnknownAttribute { at }),
         None => Ok(Filter { kind, root }),
     }
 }
 
 // The place of the first attribute that rows of the kind do not have.
-fn unknown(kind: RowKind, text: &[u8], root: &Option<Cond>, lexemes: &[Lexeme]) -> Option<u64>
+fn unknown_place(kind: RowKind, text: &[u8], root: &Option<Cond>, lexemes: &[Lexeme]) -> Option<u64>
     requires tokens { HasTokens text.now (map (seen text.now) lexemes.now) }
     requires reads { ReadsAs kind text.now root.now }
     ensures some { IfSome result (λ at. UnknownAt kind text.now at) }
@@ -68,19 +68,19 @@ fn unknown(kind: RowKind, text: &[u8], root: &Option<Cond>, lexemes: &[Lexeme]) 
 }
 
 // The tokens of a text up to its comparison past the last that it may have.
-fn limited(alloc: Global, text: &[u8]) -> Result<Vec<Lexeme>, NoMemory>
+fn limited_tokens(alloc: Global, text: &[u8]) -> Result<Vec<Lexeme>, NoMemory>
     ensures { IfOk result (λ lexemes. HasTokens text.now (map (seen text.now) lexemes.items)) }
 {
     let mut lexemes = tokenize(alloc, text)?;
-    limit(text, &mut lexemes, COMPARISONS)?;
+    cut_at_limit(text, &mut lexemes, COMPARISONS)?;
     Ok(lexemes)
 }
 
 // Where the first token of a comparison past so many stands.
-fn passing(text: &[u8], lexemes: &[Lexeme], most: u64) -> Option<usize>
+fn first_past(text: &[u8], lexemes: &[Lexeme], most: u64) -> Option<usize>
     ensures within { IfSome result (λ at. at < length lexemes.now) }
     ensures some { IfSome result (λ at. IsLimited text.now lexemes.now most at) }
-    ensures none { IfNone result (within most (map (seen text.now) lexemes.now)
+    ensures none { IfNone result (limited_to most (map (seen text.now) lexemes.now)
         ≡ map (seen text.now) lexemes.now) }
 {
     let mut left = most;
@@ -96,11 +96,11 @@ fn passing(text: &[u8], lexemes: &[Lexeme], most: u64) -> Option<usize>
 }
 
 // Makes the first token of a comparison past so many the last, as one with which no token begins.
-fn limit(text: &[u8], lexemes: &mut Vec<Lexeme>, most: u64) -> Result<(), NoMemory>
+fn cut_at_limit(text: &[u8], lexemes: &mut Vec<Lexeme>, most: u64) -> Result<(), NoMemory>
     ensures { OnOk result (map (seen text.now) lexemes.new.items
-        ≡ within most (map (seen text.now) lexemes.old.items)) }
+        ≡ limited_to most (map (seen text.now) lexemes.old.items)) }
 {
-    if let Some(at) = passing(text, lexemes, most) {
+    if let Some(at) = first_past(text, lexemes, most) {
         let from = lexemes[at].from;
         lexemes.truncate(at);
         lexemes.push(mark(Kind::Bad, from))?;
@@ -118,7 +118,12 @@ fn has_scopes(kind: RowKind) -> bool
 }
 
 // The condition of a filter, where it has one.
-fn root<'a>(alloc: Global, text: &[u8], rest: &'a [Lexeme], scopes: bool) -> Read<'a, Option<Cond>>
+fn parse_root<'a>(
+    alloc: Global,
+    text: &[u8],
+    rest: &'a [Lexeme],
+    scopes: bool,
+) -> Parsed<'a, Option<Cond>>
     ensures { Agrees text.now result (root_at scopes (map (seen text.now) rest.now)) }
 {
     match rest {
@@ -145,7 +150,7 @@ fn root<'a>(alloc: Global, text: &[u8], rest: &'a [Lexeme], scopes: bool) -> Rea
 }
 
 // The condition of the filter that a text with these tokens is, where it has one.
-fn read(
+fn parse_tokens(
     alloc: Global,
     kind: RowKind,
     text: &[u8],
@@ -154,15 +159,15 @@ fn read(
     requires { HasTokens text.now (map (seen text.now) lexemes.now) }
     ensures { ReadsOr kind text.now result }
 {
-    match root(alloc, text, lexemes, has_scopes(kind)) {
-        Ok((root, rest)) => closed(root, rest),
-        Err(Stop::Wrong(rest)) => Err(syntax(rest)),
+    match parse_root(alloc, text, lexemes, has_scopes(kind)) {
+        Ok((root, rest)) => expect_end(root, rest),
+        Err(Stop::Wrong(rest)) => Err(syntax_fault(rest)),
         Err(Stop::NoMemory) => Err(FilterFault::NoMemory),
     }
 }
 
-// What was read, if the text ends behind it.
-fn closed(root: Option<Cond>, rest: &[Lexeme]) -> Result<Option<Cond>, FilterFault>
+// What was parsed, if the text ends after it.
+fn expect_end(root: Option<Cond>, rest: &[Lexeme]) -> Result<Option<Cond>, FilterFault>
     ensures { Closes root rest.now result }
 {
     match rest {
@@ -173,12 +178,12 @@ fn closed(root: Option<Cond>, rest: &[Lexeme]) -> Result<Option<Cond>, FilterFau
             },
             ..
         ] => Ok(root),
-        _ => Err(syntax(rest)),
+        _ => Err(syntax_fault(rest)),
     }
 }
 
 // The fault of a text whose first wrong token is the first of these.
-fn syntax(rest: &[Lexeme]) -> FilterFault
+fn syntax_fault(rest: &[Lexeme]) -> FilterFault
     ensures { IsSyntaxOf rest.now result }
 {
     match rest {

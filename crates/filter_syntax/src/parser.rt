@@ -10,13 +10,13 @@ ghost use Rattle.filter_syntax.specs.declared.parser.Stop.TheVariants as stops;
 use crate::tokens::{Kind, Lexeme};
 use crate::{Cond, FilterValue, Text};
 use sqlite_items::Boxed;
-use std::alloc::{AllocError, Global};
+use std::alloc::Global;
 use wire::NoMemory;
 
-/// Why reading stopped.
+/// Why parsing stopped.
 #[derive(Clone, Copy)]
 pub(crate) enum Stop<'a> {
-    /// No text goes on with these tokens, behind those before them.
+    /// No text goes on with these tokens, after those before them.
     Wrong(&'a [Lexeme]),
     NoMemory,
 }
@@ -29,16 +29,8 @@ impl<'a> From<NoMemory> for Stop<'a> {
     }
 }
 
-impl<'a> From<AllocError> for Stop<'a> {
-    ghost from_gives = { λ _ stop. stop ≡ stops.NoMemory };
-
-    fn from(_: AllocError) -> Stop<'a> {
-        Stop::NoMemory
-    }
-}
-
-/// A part of a filter, and the tokens behind it.
-pub(crate) type Read<'a, T> = Result<(T, &'a [Lexeme]), Stop<'a>>;
+/// A part of a filter, and the tokens after it.
+pub(crate) type Parsed<'a, T> = Result<(T, &'a [Lexeme]), Stop<'a>>;
 
 // The bytes of a token.
 fn bytes_of(text: &[u8], lexeme: Lexeme) -> &[u8]
@@ -59,8 +51,8 @@ fn unquoted(bytes: &[u8]) -> &[u8]
     }
 }
 
-// Behind `(`.
-fn opened<'a>(text: &[u8], rest: &'a [Lexeme]) -> Result<&'a [Lexeme], Stop<'a>>
+// The tokens after a `(`.
+fn expect_open<'a>(text: &[u8], rest: &'a [Lexeme]) -> Result<&'a [Lexeme], Stop<'a>>
     ensures { AgreesOn text.now result (expect opens (map (seen text.now) rest.now)) }
 {
     match rest {
@@ -75,8 +67,8 @@ fn opened<'a>(text: &[u8], rest: &'a [Lexeme]) -> Result<&'a [Lexeme], Stop<'a>>
     }
 }
 
-// Behind `)`.
-fn closed<'a>(text: &[u8], rest: &'a [Lexeme]) -> Result<&'a [Lexeme], Stop<'a>>
+// The tokens after a `)`.
+fn expect_close<'a>(text: &[u8], rest: &'a [Lexeme]) -> Result<&'a [Lexeme], Stop<'a>>
     ensures { AgreesOn text.now result (expect closes (map (seen text.now) rest.now)) }
 {
     match rest {
@@ -91,8 +83,8 @@ fn closed<'a>(text: &[u8], rest: &'a [Lexeme]) -> Result<&'a [Lexeme], Stop<'a>>
     }
 }
 
-// Behind `=`.
-fn equated<'a>(text: &[u8], rest: &'a [Lexeme]) -> Result<&'a [Lexeme], Stop<'a>>
+// The tokens after a `=`.
+fn expect_equals<'a>(text: &[u8], rest: &'a [Lexeme]) -> Result<&'a [Lexeme], Stop<'a>>
     ensures { AgreesOn text.now result (expect equals (map (seen text.now) rest.now)) }
 {
     match rest {
@@ -108,7 +100,7 @@ fn equated<'a>(text: &[u8], rest: &'a [Lexeme]) -> Result<&'a [Lexeme], Stop<'a>
 }
 
 // The value of a comparison.
-fn value<'a>(alloc: Global, text: &[u8], rest: &'a [Lexeme]) -> Read<'a, FilterValue>
+fn value<'a>(alloc: Global, text: &[u8], rest: &'a [Lexeme]) -> Parsed<'a, FilterValue>
     ensures { Agrees text.now result (expect value_of (map (seen text.now) rest.now)) }
 {
     let [first, behind @ ..] = rest else {
@@ -126,17 +118,17 @@ fn value<'a>(alloc: Global, text: &[u8], rest: &'a [Lexeme]) -> Read<'a, FilterV
 }
 
 // A comparison, of which the name has been read.
-fn comparison<'a>(alloc: Global, text: &[u8], name: &[u8], rest: &'a [Lexeme]) -> Read<'a, Cond>
+fn comparison<'a>(alloc: Global, text: &[u8], name: &[u8], rest: &'a [Lexeme]) -> Parsed<'a, Cond>
     ensures { Agrees text.now result (comparison name.now (map (seen text.now) rest.now)) }
 {
-    let rest = equated(text, rest)?;
+    let rest = expect_equals(text, rest)?;
     let (value, rest) = value(alloc, text, rest)?;
     let name = Text::from_slice(alloc, name)?;
     Ok((Cond::Is { name, value }, rest))
 }
 
-// What stands behind an `AND` that comes next.
-fn behind_and<'a>(text: &[u8], rest: &'a [Lexeme]) -> Option<&'a [Lexeme]>
+// The tokens after an `AND` that comes next.
+fn after_and<'a>(text: &[u8], rest: &'a [Lexeme]) -> Option<&'a [Lexeme]>
     ensures { Follows is_and text.now rest.now result }
 {
     match rest {
@@ -151,8 +143,8 @@ fn behind_and<'a>(text: &[u8], rest: &'a [Lexeme]) -> Option<&'a [Lexeme]>
     }
 }
 
-// What stands behind an `OR` that comes next.
-fn behind_or<'a>(text: &[u8], rest: &'a [Lexeme]) -> Option<&'a [Lexeme]>
+// The tokens after an `OR` that comes next.
+fn after_or<'a>(text: &[u8], rest: &'a [Lexeme]) -> Option<&'a [Lexeme]>
     ensures { Follows is_or text.now rest.now result }
 {
     match rest {
@@ -169,11 +161,11 @@ pub(crate) fn alternatives<'a>(
     rest: &'a [Lexeme],
     depth: u64,
     scopes: bool,
-) -> Read<'a, Cond>
+) -> Parsed<'a, Cond>
     ensures { Agrees text.now result (alternatives_by (unit_at depth scopes) (map (seen text.now) rest.now)) }
 {
     let (mut cond, mut rest) = conjunction(alloc, text, rest, depth, scopes)?;
-    while let Some(behind) = behind_or(text, rest) {
+    while let Some(behind) = after_or(text, rest) {
         let (right, left_over) = conjunction(alloc, text, behind, depth, scopes)?;
         cond = Cond::Or(Boxed::new(alloc, cond)?, Boxed::new(alloc, right)?);
         rest = left_over;
@@ -189,11 +181,11 @@ fn conjunction<'a>(
     rest: &'a [Lexeme],
     depth: u64,
     scopes: bool,
-) -> Read<'a, Cond>
+) -> Parsed<'a, Cond>
     ensures { Agrees text.now result (conjunction_by (unit_at depth scopes) (map (seen text.now) rest.now)) }
 {
     let (mut cond, mut rest) = unit(alloc, text, rest, depth, scopes)?;
-    while let Some(behind) = behind_and(text, rest) {
+    while let Some(behind) = after_and(text, rest) {
         let (right, left_over) = unit(alloc, text, behind, depth, scopes)?;
         cond = Cond::And(Boxed::new(alloc, cond)?, Boxed::new(alloc, right)?);
         rest = left_over;
@@ -209,7 +201,7 @@ fn unit<'a>(
     rest: &'a [Lexeme],
     depth: u64,
     scopes: bool,
-) -> Read<'a, Cond>
+) -> Parsed<'a, Cond>
     ensures { Agrees text.now result (unit_at depth scopes (map (seen text.now) rest.now)) }
 {
     let [first, behind @ ..] = rest else {
@@ -224,7 +216,7 @@ fn unit<'a>(
     }
 }
 
-// A condition and the `)` behind it.
+// A condition and the `)` after it.
 #[cycle(rules)]
 fn enclosed<'a>(
     alloc: Global,
@@ -232,12 +224,12 @@ fn enclosed<'a>(
     rest: &'a [Lexeme],
     depth: u64,
     scopes: bool,
-) -> Read<'a, Cond>
+) -> Parsed<'a, Cond>
     ensures { Agrees text.now result (enclosed_by (alternatives_by (unit_at depth scopes))
         (map (seen text.now) rest.now)) }
 {
     let (cond, rest) = alternatives(alloc, text, rest, depth, scopes)?;
-    let rest = closed(text, rest)?;
+    let rest = expect_close(text, rest)?;
     Ok((cond, rest))
 }
 
@@ -249,11 +241,11 @@ fn scope<'a>(
     rest: &'a [Lexeme],
     depth: u64,
     inputs: bool,
-) -> Read<'a, Cond>
+) -> Parsed<'a, Cond>
     ensures { Agrees text.now result (scope_by inputs (alternatives_by (unit_at depth false))
         (map (seen text.now) rest.now)) }
 {
-    let rest = opened(text, rest)?;
+    let rest = expect_open(text, rest)?;
     let (inner, rest) = enclosed(alloc, text, rest, depth, false)?;
     let inner = Boxed::new(alloc, inner)?;
     Ok((Cond::Scope { inputs, inner }, rest))

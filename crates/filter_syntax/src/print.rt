@@ -10,12 +10,12 @@ ghost use Rattle.filter_syntax.specs.Spaced.{spaced};
 
 use crate::{Cond, Filter, FilterValue, Text};
 use std::alloc::Global;
-use wire::{Bytes, NoMemory};
+use wire::{Bytes, NoMemory, put_word};
 
 /// The text of a filter: its tokens with one space between two. Of a filter that was read, it is in ASCII, and
 /// parentheses stand round an operand exactly where the text without them does not read as the same filter. The empty
 /// filter is the empty text. In a filter made by hand, bytes that are no UTF-8 are printed as U+FFFD.
-#[tactic(auto, using(crate::proofs::Spaces::behind_first, crate::proofs::Spaces::written_text))]
+#[tactic(auto, using(crate::proofs::Spaces::drop_first, crate::proofs::Spaces::written_text))]
 pub fn print_filter(alloc: Global, filter: &Filter) -> Result<String, NoMemory>
     // The text of a filter whose tokens can be written.
     ensures written { IfOk result (λ text. AllByRecursion CanBeWritten (shown filter.now.root)
@@ -26,7 +26,7 @@ pub fn print_filter(alloc: Global, filter: &Filter) -> Result<String, NoMemory>
 {
     let mut text = Bytes::new(alloc);
     put_filter(alloc, &mut text, &filter.root)?;
-    Ok(String::from_utf8_lossy(alloc, behind_first(text.as_slice()))?)
+    Ok(String::from_utf8_lossy(alloc, without_first(text.as_slice()))?)
 }
 
 // Adds a condition, or nothing.
@@ -40,11 +40,11 @@ fn put_filter(alloc: Global, text: &mut Bytes, root: &Option<Cond>) -> Result<()
 }
 
 // All bytes but the first.
-fn behind_first(bytes: &[u8]) -> &[u8]
+fn without_first(bytes: &[u8]) -> &[u8]
     ensures { result.now ≡ drop 1 bytes.now }
 {
     match bytes {
-        [_, behind @ ..] => behind,
+        [_, after @ ..] => after,
         _ => bytes,
     }
 }
@@ -57,12 +57,12 @@ fn put_condition(alloc: Global, text: &mut Bytes, condition: &Cond) -> Result<()
     match condition {
         Cond::Or(a, b) => {
             put_condition(alloc, text, a.get())?;
-            put(text, b"OR")?;
+            put_word(text, b"OR")?;
             put_operand(alloc, text, b.get(), is_or(b.get()))
         }
         Cond::And(a, b) => {
             put_operand(alloc, text, a.get(), is_or(a.get()))?;
-            put(text, b"AND")?;
+            put_word(text, b"AND")?;
             put_operand(alloc, text, b.get(), is_or_or_and(b.get()))
         }
         Cond::Scope { inputs, inner } => {
@@ -86,9 +86,9 @@ fn put_operand(
     if !enclosed {
         return put_condition(alloc, text, operand);
     }
-    put(text, b"(")?;
+    put_word(text, b"(")?;
     put_condition(alloc, text, operand)?;
-    put(text, b")")
+    put_word(text, b")")
 }
 
 // It stands in parentheses as an operand of AND, and as the right one of OR.
@@ -109,7 +109,7 @@ fn is_or_or_and(condition: &Cond) -> bool
 fn put_scope_word(text: &mut Bytes, inputs: bool) -> Result<(), NoMemory>
     ensures { OnOk result (text.new ≡ text.old ++ spaced (scope_token inputs ∷ [])) }
 {
-    put(text, if inputs { b"inputs" } else { b"outputs" })
+    put_word(text, if inputs { b"inputs" } else { b"outputs" })
 }
 
 // Adds an attribute and what it is compared with.
@@ -121,8 +121,8 @@ fn put_comparison(
 ) -> Result<(), NoMemory>
     ensures { OnOk result (text.new ≡ text.old ++ spaced (Name name.now ∷ Equals ∷ value_token value.now ∷ [])) }
 {
-    put(text, name.as_slice())?;
-    put(text, b"=")?;
+    put_word(text, name.as_slice())?;
+    put_word(text, b"=")?;
     put_value(alloc, text, value)
 }
 
@@ -132,22 +132,14 @@ fn put_value(alloc: Global, text: &mut Bytes, value: &FilterValue) -> Result<(),
 {
     match value {
         FilterValue::Quoted(quoted) => {
-            put(text, b"'")?;
+            put_word(text, b"'")?;
             text.extend_from_slice(quoted.as_slice())?;
             text.push(b'\'')
         }
-        FilterValue::Number(n) => put(text, n.to_string(alloc)?.as_bytes()),
+        FilterValue::Number(n) => put_word(text, n.to_string(alloc)?.as_bytes()),
         FilterValue::Param(n) => {
-            put(text, b"$")?;
+            put_word(text, b"$")?;
             text.extend_from_slice(n.to_string(alloc)?.as_bytes())
         }
     }
-}
-
-// Adds a space and a word.
-fn put(text: &mut Bytes, word: &[u8]) -> Result<(), NoMemory>
-    ensures { OnOk result (text.new ≡ text.old ++ (32 ∷ word.now)) }
-{
-    text.push(b' ')?;
-    text.extend_from_slice(word)
 }

@@ -3,9 +3,9 @@ ghost use Rattle.std.specs.Prelude.{◌≡◌, ◌∷◌, map, IfOk};
 ghost use Rattle.filter_syntax.specs.Tokens.{AreTokens};
 ghost use Rattle.filter_syntax.specs.Lexing.{run_of, run_token, param_token, quoted_token, first_token, seen, Finds};
 
-use crate::words::{is_word, number, quotable_len, run_len, word_kind};
+use crate::words::{is_word, quotable_len, run_len, word_kind};
 use std::alloc::Global;
-use wire::NoMemory;
+use wire::{MAX_NUMBER, NoMemory, decimal_within};
 
 /// The greatest number of a parameter.
 const PARAM_MOST: u64 = 99;
@@ -89,7 +89,7 @@ fn first_token(text: &[u8]) -> Option<(Kind, usize)>
     }
 }
 
-// The token of a `'` and what stands behind it.
+// The token of a `'` and what stands after it.
 fn quoted(behind: &[u8]) -> Option<(Kind, usize)>
     ensures { Finds (39 ∷ behind.now) result (quoted_token behind.now) }
 {
@@ -101,12 +101,12 @@ fn quoted(behind: &[u8]) -> Option<(Kind, usize)>
     }
 }
 
-// The token of a `$` and what stands behind it.
+// The token of a `$` and what stands after it.
 fn param(behind: &[u8]) -> Option<(Kind, usize)>
     ensures { Finds (36 ∷ behind.now) result (param_token (run_of behind.now)) }
 {
     let len = run_len(behind);
-    match number(&behind[..len]) {
+    match decimal_within(&behind[..len], MAX_NUMBER) {
         Some(n) if n >= 1 && n <= PARAM_MOST => Some((Kind::Param(n), len + 1)),
         _ => None,
     }
@@ -121,7 +121,7 @@ fn word_or_number(text: &[u8]) -> Option<(Kind, usize)>
     if is_word(run) {
         return Some((word_kind(run), len));
     }
-    match number(run) {
+    match decimal_within(run, MAX_NUMBER) {
         Some(n) => Some((Kind::Number(n), len)),
         None => None,
     }

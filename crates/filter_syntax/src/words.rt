@@ -1,15 +1,10 @@
-//! The words, numbers and texts that tokens are made of.
-ghost use Rattle.std.specs.Prelude.{◌≡◌, ◌≤◌, ◌^◌, ◌<◌, ◌-◌, length, IfSome, IsTrue, Some, None};
+//! The words and quoted texts that tokens are made of.
+ghost use Rattle.std.specs.Prelude.{◌≡◌, ◌≤◌, length};
 ghost use Rattle.std.specs.List.{list_all, prefix_len};
-ghost use Rattle.std.specs.Char.{is_ascii_digit};
-ghost use Rattle.std.specs.Str.Parse.{digits_value};
 ghost use Rattle.filter_syntax.specs.Spelling.{begins_name, is_name_byte, is_word, is_quotable};
-ghost use Rattle.filter_syntax.specs.Lexing.{is_decimal, number_of, small, word_token, token_of};
+ghost use Rattle.filter_syntax.specs.Lexing.{word_token, token_of};
 
 use crate::tokens::Kind;
-
-/// The greatest number.
-const NUMBER_MOST: u64 = (1 << 63) - 1;
 
 /// A letter or `_`.
 pub(crate) fn begins_name(byte: u8) -> bool
@@ -90,51 +85,5 @@ pub(crate) fn word_kind(word: &[u8]) -> Kind
         Kind::Outputs
     } else {
         Kind::Name
-    }
-}
-
-/// The number that the bytes are: `0`, or digits that begin with 1 to 9, at most 2^63 - 1.
-#[tactic(auto, unfolding(crate::specs::Lexing::number_of))]
-pub(crate) fn number(bytes: &[u8]) -> Option<u64>
-    ensures { result ≡ number_of bytes.now }
-{
-    if !is_decimal(bytes) {
-        return None;
-    }
-    digits_within(bytes)
-}
-
-fn is_decimal(bytes: &[u8]) -> bool
-    ensures { result ≡ is_decimal bytes.now }
-{
-    match bytes {
-        [b'0'] => true,
-        [b'1'..=b'9', rest @ ..] => are_digits(rest),
-        _ => false,
-    }
-}
-
-fn are_digits(bytes: &[u8]) -> bool
-    ensures { result ≡ list_all is_ascii_digit bytes.now }
-{
-    bytes.iter().all(|digit| digit.is_ascii_digit())
-}
-
-// The value of digits, where it is at most the greatest number.
-#[tactic(auto, using(crate::proofs::Runs::digits))]
-fn digits_within(digits: &[u8]) -> Option<u64>
-    requires { IsTrue (list_all is_ascii_digit digits.now) }
-    ensures { result ≡ small (digits_value 10 digits.now) }
-{
-    let mut value: u64 = 0;
-    for digit in digits {
-        value = value
-            .checked_mul(10)?
-            .checked_add(u64::from(*digit - b'0'))?;
-    }
-    if value > NUMBER_MOST {
-        None
-    } else {
-        Some(value)
     }
 }

@@ -1,4 +1,5 @@
--- Parts with a token behind or in front of them, and parts whose value is made into another.
+-- Parts with a token after or before them, and parts whose value is made into another.
+-- Only proofs and contracts of private functions name it.
 use Rattle.std.specs.Prelude.{◌≡◌, List, [], ◌∷◌, ◌++◌, Option, Some, refl}
 use Rattle.std.proofs.Common.{ap, ◌∙◌, subst}
 use Rattle.grammars.specs.Outcome.{Outcome, Got, ◌>>=◌}
@@ -10,7 +11,7 @@ use Rattle.grammars.specs.Sequence.{Then, Within, HandsOn, decides_then}
 abbrev pub Made : {T V W : Type 0} → (V → W) → Part T V → Part T W
 Made make X = Then X (λ v. Nothing (make v))
 
--- the part, and a token behind it that means something
+-- the part, and a token after it that means something
 abbrev pub Closed : {T V E : Type 0} → (T → Option E) → Part T V → Part T V
 Closed meaning X = Then X (λ v. Then (Is meaning) (λ e. Nothing v))
 
@@ -63,7 +64,7 @@ module _ {T V E : Type 0} (F : T → Type 0) (meaning : T → Option E) (example
       (λ e. Got v e.1) (expect meaning ts) (decides_expect F meaning example D ts)
       (λ e rest got. decides_nothing F v D rest)
 
-  -- a part with a token behind it that does not go on it
+  -- a part with a token after it that does not go on it
   pub decides_closed : (X Y : Part T V) (C D : T → Type 0) (ts : List T) → Within X Y
       → ((t : T) (e : E) → meaning t ≡ Some e → C t → ⊥) → (o : Outcome T V) → Decides F X Y C ts o
       → Decides F (Closed meaning X) (Closed meaning Y) D ts (o >>= λ v. expect meaning v.1 >>= λ e. Got v.0 e.1)

@@ -1,4 +1,5 @@
--- Parts that repeat: behind what was read so far stands, as often as it does, a token that says so and then a part.
+-- Parts that repeat: after what was read so far stands, as often as it does, a token that says so and then a part.
+-- Only proofs and contracts of private functions name it.
 use Rattle.std.specs.Prelude.{◌≡◌, ℕ, zero, suc, ◌+◌, ◌≤◌, Bool, true, false, List, [], ◌∷◌, ◌++◌, length}
 use Rattle.std.specs.Prelude.{Option, Some, cond, refl}
 use Rattle.std.proofs.Common.{sym, ap, ◌∙◌, inl, inr, subst, true≢false, le_trans}
@@ -12,7 +13,7 @@ use Rattle.grammars.specs.Heads.{After, Turns, Covers, Nothing, goes_over, decid
 use Rattle.grammars.specs.Heads.{decides_nothing}
 use Rattle.grammars.specs.Sequence.{Then, Within, HandsOn, decides_then}
 
--- Nothing more stands there; or a token that goes on, then a part as it asks for, and the rest, behind what the token
+-- Nothing more stands there; or a token that goes on, then a part as it asks for, and the rest, after what the token
 -- joins of what there was and the part.
 pub data Tail {T V A : Type 0} (on : T → Bool) (X : T → Part T V) (join : T → A → V → A) : A → List T → A → Type 0 where
   Done : (a : A) → Tail on X join a [] a
@@ -191,7 +192,7 @@ decides_chained F on X Y C D read join chain within comes ts =
     (λ a. tail on (λ t. read) join (length a.1) a.0 a.1) (read ts) (comes ts)
     (λ a rest got. decides_tail F on (λ t. X) (λ t. Y) C D (λ t. read) chain join (length rest) a rest (omega arith))
 
--- What a part is joined with behind a part that may go on so is such a part, if it reads the part and what joins it.
+-- What a part is joined with after a part that may go on so is such a part, if it reads the part and what joins it.
 pub chained_reads : {T V : Type 0} (on : T → Bool) (join : T → V → V → V) (X H : Part T V)
     → ((u : List T) (a : V) → X u a → H u a)
     → ((u w : List T) (t : T) (a b : V) → H u a → on t ≡ true → X w b → H (u ++ (t ∷ w)) (join t a b))

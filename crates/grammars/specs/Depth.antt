@@ -1,4 +1,5 @@
 -- Parts with a bound on their nesting, and what is read within any bound.
+-- Only proofs and contracts of private functions name it.
 use Rattle.std.specs.Prelude.{ℕ, zero, suc, ◌+◌, List}
 use Rattle.std.proofs.Common.{inl, subst, arith}
 use Rattle.grammars.specs.Outcome.{Outcome}

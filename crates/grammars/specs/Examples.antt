@@ -1,4 +1,5 @@
 -- That some tokens are such a part, for parts that are put together of others.
+-- Only proofs and contracts of private functions name it.
 use Rattle.std.specs.Prelude.{◌≡◌, Bool, true, false, List, [], ◌∷◌, ◌++◌, Option, Some, None, cond, refl}
 use Rattle.std.proofs.Common.{ap, ◌∙◌, subst}
 use Rattle.std.proofs.lemmas.Option.{none-some, same_Some}
@@ -64,7 +65,7 @@ pub some_opened : {T V E : Type 0} (F : T → Type 0) (meaning : T → Option E)
     → ((e : E) → Completes F (X e) []) → Completes F (Opened meaning X) []
 some_opened F meaning e X some = some_then F (Is meaning) X (some_token F meaning e) some
 
--- ---- what a part with a token in front does not go on
+-- ---- what a part with a token before it does not go on
 
 pub opened_hands : {T V E : Type 0} (meaning : T → Option E) (X : E → Part T V) (C D : T → Type 0)
     → ((t : T) (e : E) → meaning t ≡ Some e → C t → ⊥) → HandsOn C D (Opened meaning X)

@@ -1,4 +1,5 @@
 -- Parts that repeat and are gathered into a value of another kind: a list of them, say.
+-- Only proofs and contracts of private functions name it.
 use Rattle.std.specs.Prelude.{◌≡◌, Bool, true, List, [], ◌∷◌, ◌++◌, length, Option}
 use Rattle.std.proofs.Common.{sym, ap, ◌∙◌, subst, arith}
 use mathlib.Core.List.{append_assoc, append-nil}
@@ -41,7 +42,7 @@ decides_gathered F on start join First Free X Y C D first read chain within come
     (λ a. tail on read join (length a.1) (start a.0) a.1) (first ts) (comes ts)
     (λ v rest got. decides_tail F on X Y C D read chain join (length rest) (start v) rest (omega arith))
 
--- What is gathered is such a part, if that reads the first part, and one more part behind it.
+-- What is gathered is such a part, if that reads the first part, and one more part after it.
 pub gathered_reads : {T V A : Type 0} (on : T → Bool) (start : V → A) (join : T → A → V → A) (First : Part T V)
     (X : T → Part T V) (H : Part T A) → ((u : List T) (v : V) → First u v → H u (start v))
     → ((u w : List T) (t : T) (a : A) (b : V) → H u a → on t ≡ true → X t w b → H (u ++ (t ∷ w)) (join t a b))
@@ -88,7 +89,7 @@ one_item v = v ∷ []
 abbrev pub and_item : {T V : Type 0} → T → List V → V → List V
 and_item t items v = items ++ (v ∷ [])
 
--- one part and more of it, each behind a token that says so
+-- one part and more of it, each after a token that says so
 abbrev pub Separated : {T V : Type 0} → (T → Bool) → Part T V → Part T (List V)
 Separated on X = Gathered on one_item and_item X (λ t. X)
 

@@ -1,4 +1,5 @@
 -- Reading by the next token: what begins with it, what ends there, and what cannot begin so.
+-- Only proofs and contracts of private functions name it.
 use Rattle.std.specs.Prelude.{◌≡◌, ◌⊎◌, List, [], ◌∷◌, ◌++◌, Option, Some, None, refl}
 use Rattle.std.proofs.Common.{sym, ap, ◌∙◌, inl, inr}
 use mathlib.Core.List.{append_cancel_left}
@@ -107,7 +108,7 @@ module _ {T V : Type 0} (F : T → Type 0) where
   none_after token Y C front rest none u r v reads alike =
       none reads.behind r v reads.reads (alike_behind token front rest u reads.behind r reads.joined alike)
 
-  -- How the tokens behind the first come out as a part decides of the first and that part.
+  -- How the tokens after the first come out as a part decides of the first and that part.
   pub decides_after : (token : T) (X Y : Part T V) (C : T → Type 0) (ts : List T) (o : Outcome T V)
       → Decides F X Y C ts o → Decides F (After token X) (After token Y) C (token ∷ ts) o
   decides_after token X Y C ts (Got v rest) h = record {

@@ -1,4 +1,5 @@
--- A part that may stand once: behind what was read stands nothing more, or a token that says so and then the part.
+-- A part that may stand once: after what was read stands nothing more, or a token that says so and then the part.
+-- Only proofs and contracts of private functions name it.
 use Rattle.std.specs.Prelude.{◌≡◌, Bool, true, false, List, [], ◌∷◌, ◌++◌, Option, Some, cond, refl}
 use Rattle.std.proofs.Common.{sym, ap, ◌∙◌, inl, inr, subst, true≢false}
 use Rattle.std.proofs.lemmas.Option.{none-some, same_Some}

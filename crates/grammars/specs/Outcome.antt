@@ -1,7 +1,7 @@
--- What reading a part of a text comes to.
+-- What reading a part of a text comes to. Only proofs and contracts of private functions name it.
 use Rattle.std.specs.Prelude.{List}
 
--- A value, and the tokens behind the part; or the tokens from the first on with which no part goes on; or the tokens
+-- A value, and the tokens after the part; or the tokens from the first on with which no part goes on; or the tokens
 -- from the first on that stands too deep.
 pub data Outcome (T V : Type 0) : Type 0 where
   Got : V → List T → Outcome T V

@@ -1,4 +1,5 @@
--- A part, and then one more of it at most, behind a token that says so.
+-- A part, and then one more of it at most, after a token that says so.
+-- Only proofs and contracts of private functions name it.
 use Rattle.std.specs.Prelude.{◌≡◌, Bool, true, List, [], ◌∷◌, ◌++◌, refl}
 use Rattle.std.proofs.Common.{sym, subst}
 use mathlib.Core.List.{append-nil}
@@ -32,7 +33,7 @@ abbrev pub paired : {T V : Type 0} → (on : T → Bool) → (join : T → V →
     → Outcome T V
 paired on join read ts = read ts >>= λ a. once on (λ t. read) join a.0 a.1
 
--- Where the part comes out, so does one with perhaps another behind it.
+-- Where the part comes out, so does one with perhaps another after it.
 pub decides_paired : {T V : Type 0} (F : T → Type 0) (on : T → Bool) (X Y : Part T V) (C D : T → Type 0)
     (read : List T → Outcome T V) (join : T → V → V → V) → IsChain F on (λ t. X) (λ t. Y) C D (λ t. read) → Within X Y
     → ((ts : List T) → Decides F X Y C ts (read ts)) → (ts : List T)

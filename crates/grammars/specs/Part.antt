@@ -1,7 +1,7 @@
--- Parts of texts, and what reading one comes to.
+-- Parts of texts, and what reading one comes to. Only proofs and contracts of private functions name it.
 --
 -- A part is what a grammar says of a stretch of tokens and the value that it reads as. It is given twice: X is the part
--- with its nesting bounded, Y the same part without the bound. A part may go on: behind `a` stands `+ b`. What it may
+-- with its nesting bounded, Y the same part without the bound. A part may go on: after `a` stands `+ b`. What it may
 -- go on with is given by C, as a condition on the next token; what follows the part elsewhere never meets it.
 use Rattle.std.specs.Prelude.{◌≡◌, ◌⊎◌, List, [], ◌∷◌, ◌++◌, refl}
 use Rattle.std.specs.List.{AllByRecursion}
@@ -36,7 +36,7 @@ pub record Completes {T V : Type 0} (F : T → Type 0) (X : Part T V) (front : L
   pub fine : AllByRecursion F more
   pub reads : X (front ++ more) value
 
--- The tokens begin with a part of this value. Of each list that is alike up to the token behind the part, the front is
+-- The tokens begin with a part of this value. Of each list that is alike up to the token after the part, the prefix is
 -- this part alone, or one that could have gone on.
 pub record IsGot {T V : Type 0} (X Y : Part T V) (C : T → Type 0) (ts : List T) (v : V) (rest : List T) : Type 0 where
   pub used : List T
@@ -44,15 +44,15 @@ pub record IsGot {T V : Type 0} (X Y : Part T V) (C : T → Type 0) (ts : List T
   pub reads : X used v
   pub sure : (u r : List T) (x : V) → Y u x → Alike used rest (u ++ r) → ((u ≡ used) × (x ≡ v)) ⊎ Goes C r
 
--- A part begins with the front. No list that is alike up to the wrong token begins with a part, but one that could have
--- gone on.
+-- A part begins with the prefix. No list that is alike up to the wrong token begins with a part, but one that could
+-- have gone on.
 pub record IsWrong {T V : Type 0} (F : T → Type 0) (X Y : Part T V) (C : T → Type 0) (ts rest : List T) : Type 0 where
   pub front : List T
   pub split : ts ≡ front ++ rest
   pub begins : Completes F X front
   pub none : (u r : List T) (x : V) → Y u x → Alike front rest (u ++ r) → Goes C r
 
--- A part within the bound begins with the front, and one without with the next token too; none within the bound does.
+-- A part within the bound begins with the prefix, and one without with the next token too; none within the bound does.
 pub record IsDeep {T V : Type 0} (F : T → Type 0) (X Y : Part T V) (C : T → Type 0) (ts rest : List T) : Type 0 where
   pub front : List T
   pub token : T
@@ -63,7 +63,7 @@ pub record IsDeep {T V : Type 0} (F : T → Type 0) (X Y : Part T V) (C : T → 
   pub deeper : Completes F Y (front ++ (token ∷ []))
   pub none : (u r : List T) (x : V) → X u x → Alike front rest (u ++ r) → Goes C r
 
--- what reading a part at the front of these tokens came to
+-- what reading a part at the start of these tokens came to
 abbrev pub Decides : {T V : Type 0} → (F : T → Type 0) → (X Y : Part T V) → (C : T → Type 0) → List T
     → Outcome T V → Type 0
 Decides F X Y C ts (Got v rest) = IsGot X Y C ts v rest
@@ -72,7 +72,7 @@ Decides F X Y C ts (Deep rest) = IsDeep F X Y C ts rest
 
 -- ---- lists that are alike
 
--- lists that begin alike behind a front begin alike with it
+-- lists that begin alike after a prefix begin alike with it
 pub next_behind : {T : Type 0} (front a b : List T) → next a ≡ next b → next (front ++ a) ≡ next (front ++ b)
 next_behind [] a b h = h
 next_behind (t ∷ front) a b h = refl

@@ -1,4 +1,5 @@
 -- A part that may be missing before a token that closes, and one that may stand once where none is within the bound.
+-- Only proofs and contracts of private functions name it.
 use Rattle.std.specs.Prelude.{◌≡◌, Bool, true, false, List, [], ◌∷◌, ◌++◌, Option, Some, None, cond, refl}
 use Rattle.std.proofs.Common.{sym, ap, ◌∙◌, inl, subst, true≢false}
 use Rattle.std.proofs.lemmas.Option.{none-some, same_Some}
@@ -15,7 +16,7 @@ use Rattle.grammars.specs.Once.{Once, Not, One}
 
 -- ---- a part that may be missing
 
--- the part, and a token behind it that closes; or that token alone, which then means this value
+-- the part, and a token after it that closes; or that token alone, which then means this value
 pub data Perhaps {T V E : Type 0} (closes : T → Option E) (none : V) (X : Part T V) : List T → V → Type 0 where
   Missing : (t : T) (e : E) → closes t ≡ Some e → Perhaps closes none X (t ∷ []) none
   Stands : (u : List T) (v : V) → Closed closes X u v → Perhaps closes none X u v

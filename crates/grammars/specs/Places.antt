@@ -1,4 +1,5 @@
 -- Tokens with places, and lists that have the same tokens at other places.
+-- Public statements of crates above name it.
 use Rattle.std.specs.Prelude.{◌≡◌, ℕ, List, [], ◌∷◌, ◌++◌, map, refl}
 use Rattle.std.proofs.Common.{sym, ap, ◌∙◌}
 use Rattle.std.proofs.lemmas.Option.{none-some, same_Some}
@@ -21,7 +22,7 @@ pub none_of : {K : Type 0} (w : List (K × ℕ)) → kinds w ≡ [] → w ≡ []
 none_of [] same = refl
 none_of (t ∷ w) same = absurd (none-some t.0 (sym (ap next same)))
 
--- ---- a token in front
+-- ---- a token before others
 
 pub record Front {K : Type 0} (k : K) (b w : List (K × ℕ)) : Type 0 where
   pub place : ℕ
@@ -43,7 +44,7 @@ pub single_of : {K : Type 0} (k : K) (w : List (K × ℕ)) → kinds w ≡ k ∷
 single_of k w same =
     let f = front_of k [] w same in (f.place, f.all ∙ ap (λ b. (k, f.place) ∷ b) (none_of f.behind f.same))
 
--- ---- two lists, one behind the other
+-- ---- two lists, one after the other
 
 pub record Halves {K : Type 0} (a b w : List (K × ℕ)) : Type 0 where
   pub first : List (K × ℕ)
@@ -91,7 +92,7 @@ middle_of {K} a k at b w same =
       same_second = f.same;
     }
 
--- a token behind a list
+-- a token after a list
 pub record Ending {K : Type 0} (a : List (K × ℕ)) (k : K) (w : List (K × ℕ)) : Type 0 where
   pub first : List (K × ℕ)
   pub place : ℕ

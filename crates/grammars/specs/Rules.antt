@@ -1,4 +1,5 @@
 -- Parts with their readers: how each way to put parts together goes with one to put readers together.
+-- Only proofs and contracts of private functions name it.
 use Rattle.std.specs.Prelude.{◌≡◌, Bool, true, List, [], ◌++◌, Option, Some}
 use Rattle.grammars.specs.Text.{next}
 use Rattle.grammars.specs.Outcome.{Outcome, Got, ◌>>=◌}

@@ -1,4 +1,5 @@
 -- A part and then another, and how reading them one after the other comes out.
+-- Only proofs and contracts of private functions name it.
 use Rattle.std.specs.Prelude.{◌≡◌, ◌⊎◌, List, [], ◌∷◌, ◌++◌, refl}
 use Rattle.std.specs.List.{AllByRecursion}
 use Rattle.std.proofs.Common.{sym, ap, ◌∙◌, inl, inr, subst}
@@ -29,7 +30,7 @@ all_joined F [] b h k = k
 all_joined F (t ∷ a) b h k = (h.0, all_joined F a b h.1 k)
 
 module _ {T V W : Type 0} (F : T → Type 0) where
-  -- a front of the first part is one of both
+  -- a prefix of the first part is one of both
   completed : (X : Part T V) (Z : V → Part T W) (front : List T) → Completes F X front
       → ((v : V) → Completes F (Z v) []) → Completes F (Then X Z) front
   completed X Z front h some = let rest = some h.value in record {
@@ -46,7 +47,7 @@ module _ {T V W : Type 0} (F : T → Type 0) where
     };
   }
 
-  -- the first part and a front of the second are a front of both
+  -- the first part and a prefix of the second are a prefix of both
   completed_second : (X : Part T V) (Z : V → Part T W) (used front : List T) (v : V) → X used v
       → Completes F (Z v) front → Completes F (Then X Z) (used ++ front)
   completed_second X Z used front v reads h = record {
@@ -145,7 +146,7 @@ module _ {T V W : Type 0} (F : T → Type 0) where
         }) alike;
   }
 
-  -- Where the first part comes out, and behind each value of it the second does, so do both, one after the other.
+  -- Where the first part comes out, and after each value of it the second does, so do both, one after the other.
   pub decides_then : (X1 Y1 : Part T V) (X2 Y2 : V → Part T W) (C D : T → Type 0) (ts : List T)
       → Within X1 Y1 → ((v : V) → Within (X2 v) (Y2 v)) → ((v : V) → HandsOn C D (Y2 v))
       → ((v : V) → Completes F (X2 v) [])

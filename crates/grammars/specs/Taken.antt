@@ -1,4 +1,5 @@
 -- Parts that are put together of others, taken apart and put together again.
+-- Only proofs and contracts of private functions name it.
 use Rattle.std.specs.Prelude.{◌≡◌, List, [], ◌∷◌, ◌++◌, Option, Some, refl}
 use Rattle.std.proofs.Common.{sym, ap, ◌∙◌, subst}
 use mathlib.Core.List.{append-nil}
@@ -38,7 +39,7 @@ made_within make X Y within u w h = record {
   reads_second = h.reads_second;
 }
 
--- ---- a part with a token behind it
+-- ---- a part with a token after it
 
 pub closed_of : {T V E : Type 0} (closes : T → Option E) (X : Part T V) (u : List T) (v : V) (t : T) (e : E)
     → closes t ≡ Some e → X u v → Closed closes X (u ++ (t ∷ [])) v
@@ -80,7 +81,7 @@ closed_is closes X u v h =
       reads = subst (λ v. X h.first v) (sym k.reads_second.1) h.reads_first;
     }
 
--- ---- a part with a token in front
+-- ---- a part with a token before it
 
 pub opened_of : {T V E : Type 0} (meaning : T → Option E) (X : E → Part T V) (t : T) (e : E) (u : List T) (v : V)
     → meaning t ≡ Some e → X e u v → Opened meaning X (t ∷ u) v

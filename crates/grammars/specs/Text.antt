@@ -1,4 +1,4 @@
--- Texts of a grammar, and the first token with which no text begins.
+-- Texts of a grammar, and the first token with which no text begins. Public statements of crates above name it.
 use Rattle.std.specs.Prelude.{◌≡◌, List, [], ◌∷◌, ◌++◌, Option, Some, None, refl}
 use Rattle.std.proofs.Common.{sym, ap, ◌∙◌, subst}
 use Rattle.std.proofs.lemmas.Option.{same_Some}
@@ -29,7 +29,7 @@ abbrev others : {T : Type 0} → List T → List T
 others [] = []
 others (t ∷ ts) = ts
 
--- a text that begins with tokens begins with their front
+-- a text that begins with tokens begins with their prefix
 pub begins_front : {T : Type 0} (L : Language T) (a b : List T) → Begins L (a ++ b) → Begins L a
 begins_front L a b h = (b ++ h.0, subst L (append_assoc a b h.0) h.1)
 

@@ -1,4 +1,5 @@
--- How reading a part at the front of a text's tokens decides of the whole text.
+-- How reading a part at the start of a text's tokens decides of the whole text.
+-- Only proofs and contracts of private functions name it.
 --
 -- The parts read tokens of T, which may have places. What counts of a token is its kind, and a language is of kinds.
 -- The last token of a text is one that stops it: its end, or bytes with which no token begins.
@@ -42,7 +43,7 @@ abbrev others : {T : Type 0} → List T → List T
 others [] = []
 others (t ∷ ts) = ts
 
--- a text that goes on behind its front does so before its end
+-- a text that goes on after its prefix does so before its end
 fronted : {K : Type 0} (stops : K → Bool) (end : K) (front : List K) (k : K) (us more : List K) → stops end ≡ true
     → AreOpen stops front → stops k ≡ false → front ++ (k ∷ more) ≡ us ++ (end ∷ [])
     → (rest : List K) × (us ≡ front ++ (k ∷ rest))
@@ -56,7 +57,7 @@ fronted stops end (f ∷ front) k (u ∷ us) more ends unstopped goes same =
     let rest = fronted stops end front k us more ends unstopped.1 goes (ap others same) in
     (rest.0, ap (λ us. u ∷ us) rest.1 ∙ ap (λ u. u ∷ (front ++ (k ∷ rest.0))) (sym (same_Some f u (ap next same))))
 
--- and one that stops behind its front is that front, and its end
+-- and one that stops after its prefix is that prefix, and its end
 ended : {K : Type 0} (stops : K → Bool) (end : K) (front us : List K) (last : K) (more : List K) → stops end ≡ true
     → AreOpen stops front → AreOpen stops us → stops last ≡ true → front ++ (last ∷ more) ≡ us ++ (end ∷ [])
     → (us ≡ front) × (last ≡ end)
@@ -104,7 +105,7 @@ within_good kind stops F (f ∷ front) rest (g ∷ good) last unstopped stop fin
 
 module _ {T K V : Type 0} (kind : T → K) (place : K → T) (stops : K → Bool) (end : K) (ends : stops end ≡ true)
     (F : T → Type 0) (Z : Part T V) (L : Language K) (speaks : Speaks kind place stops F Z L) where
-  -- a front that completes to the part begins a text, and no token of it stops one
+  -- a prefix that completes to the part begins a text, and no token of it stops one
   begins_text : (front : List T) → AllByRecursion F front → Completes F Z front → Begins (Ended L end) (map kind front)
   begins_text front fine h = (
     map kind h.more ++ (end ∷ []),
@@ -116,7 +117,7 @@ module _ {T K V : Type 0} (kind : T → K) (place : K → T) (stops : K → Bool
     },
   )
 
-  -- no part stands at the front of tokens that go on as these do
+  -- no part stands at the start of tokens that go on as these do
   NoneGoesOn : List T → T → Type 0
   NoneGoesOn front t = (u r : List T) (v : V) → Z u v → Alike front (t ∷ []) (u ++ r)
       → ((stops (kind t) ≡ true) × (r ≡ t ∷ []) × (kind t ≡ end)) ⊎ (r ≡ []) → ⊥
@@ -143,7 +144,7 @@ module _ {T K V : Type 0} (kind : T → K) (place : K → T) (stops : K → Bool
       let reads = speaks.opened u (subst L kinds whole.text) in
       none u [] reads.0 reads.1 (record { tail = t ∷ map place found.0; split = append-nil u; same = refl }) (inr refl)
 
-  -- the first wrong token, where a front of the part is followed by what no part goes on with
+  -- the first wrong token, where a prefix of the part is followed by what no part goes on with
   wrong_at : (ts front rest : List T) (t : T) (behind : List T) → rest ≡ t ∷ behind → ts ≡ front ++ rest
       → AllByRecursion F front → AreOpen stops (map kind front) → Completes F Z front
       → ((u r : List T) (v : V) → Z u v → Alike front (t ∷ []) (u ++ r)
@@ -163,7 +164,7 @@ module _ {T K V : Type 0} (kind : T → K) (place : K → T) (stops : K → Bool
     };
   }
 
--- ---- what reading at the front says of the text
+-- ---- what reading at the start says of the text
 
 -- All tokens but the last read as this value, and as no other.
 pub record IsWhole {T V : Type 0} (X Y : Part T V) (ts : List T) (last : T) (v : V) : Type 0 where
@@ -177,7 +178,7 @@ pub record DeepAt {T K : Type 0} (kind : T → K) (bounded free : Language K) (t
   pub wrong : WrongAt kind bounded ts rest
   pub begins : Begins free (map kind wrong.front ++ (kind wrong.token ∷ []))
 
--- behind what was got stands the text's end, or the first wrong token
+-- after what was got stands the text's end, or the first wrong token
 pub record GotAt {T K V : Type 0} (kind : T → K) (X Y : Part T V) (end : K) (free : Language K) (ts : List T) (v : V)
     (rest : List T) : Type 0 where
   pub token : T
@@ -211,7 +212,7 @@ ends_here kind stops F (f ∷ front) [] last t behind plain fine stop unstopped 
 ends_here kind stops F (f ∷ front) (g ∷ good) last t behind plain fine stop unstopped ends same =
     ends_here kind stops F front good last t behind plain fine.1 stop unstopped.1 ends (ap others same)
 
--- a front of tokens that do not stop a text
+-- a prefix of tokens that do not stop a text
 unstopped_front : {T K : Type 0} (kind : T → K) (stops : K → Bool) (a b : List T) → AreOpen stops (map kind (a ++ b))
     → AreOpen stops (map kind a)
 unstopped_front kind stops [] b h = tt

@@ -1,4 +1,4 @@
--- A table of the values of a key's tree, by the numbers of the nodes.
+-- A table of the values of a key's tree, by the numbers of the nodes. Only contracts of private functions name it.
 use Rattle.std.specs.Prelude.{◌≡◌, ℕ, ◌+◌, ◌*◌, ◌^◌, ◌≤◌, List, [], slice_index_or}
 use Rattle.hash_sigs.specs.Key.{Origin, node}
 

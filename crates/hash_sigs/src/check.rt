@@ -1,3 +1,4 @@
+//! The check of LMS signatures (RFC 8554).
 ghost use Rattle.std.specs.Prelude.{◌≡◌, ◌≤◌, ◌<◌, ◌+◌, ◌*◌, ◌^◌, ◌↔◌, IsTrue, length, slice_range};
 ghost use Rattle.hash_sigs.specs.Signature.{leaf_number, key_candidate, root_candidate, is_key, is_signature};
 ghost use Rattle.hash_sigs.specs.Signature.{lms_of, lms};

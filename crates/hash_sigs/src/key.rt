@@ -1,3 +1,4 @@
+//! Keys that give LMS signatures (RFC 8554), each leaf for one message.
 ghost use Rattle.std.specs.Prelude.{◌≡◌, ◌+◌, ◌-◌, ◌^◌, ◌≤◌, ◌↔◌, Err, IsTrue, IfOk, OnOk, OnErr};
 ghost use Rattle.hash_sigs.specs.Key.{IsHeight, public_key, signature};
 ghost use Rattle.hash_sigs.specs.Signature.{lms};

@@ -3,13 +3,13 @@ ghost use Rattle.std.specs.Prelude.{◌≡◌, ◌≤◌, ◌+◌, ◌-◌, leng
 ghost use Rattle.hash_sigs.specs.Strings.{string_at};
 ghost use Rattle.hash_sigs.specs.OneTime.{chain, checksum, digits, candidate, message_hash};
 
-use crate::strings::{Value, begun, hashed, u16str, value_at};
+use crate::strings::{Value, hashed, prefix_hasher, u16str, value_at};
 use sha2::Digest;
 
 /// How many chains a one-time key has.
 pub const CHAINS: usize = 34;
 
-/// The last value of each chain has this many steps behind it.
+/// The last value of each chain has this many steps after it.
 pub const STEPS: u8 = 255;
 
 /// The tag of a one-time public key.
@@ -62,7 +62,7 @@ pub fn candidate(id: &[u8], q: u32, digits: &[u8; CHAINS], signature: &[u8], at:
     requires { at + 1088 ≤ length signature.now }
     ensures { result ≡ candidate id.now q digits.now (string_at signature.now at) }
 {
-    let mut hasher = begun(id, q, D_PBLC);
+    let mut hasher = prefix_hasher(id, q, D_PBLC);
     for i in 0..CHAINS {
         let value = value_at(signature, at + 32 * i);
         let end = chained(id, q, i as u16, digits[i], STEPS, value);

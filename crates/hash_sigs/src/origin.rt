@@ -3,7 +3,7 @@ ghost use Rattle.std.specs.Prelude.{◌≡◌, ◌^◌, ◌≤◌, ◌++◌, len
 ghost use Rattle.hash_sigs.specs.Key.{IsHeight, typecode, private_element, own_randomizer, own_chain, own_one_time_key};
 
 use crate::one_time::{CHAINS, D_PBLC, STEPS, chained};
-use crate::strings::{Value, begun, hashed};
+use crate::strings::{Value, hashed, prefix_hasher};
 use sha2::Digest;
 use std::marker::Model;
 
@@ -95,7 +95,7 @@ impl Origin {
     pub fn one_time_key(&self, q: u32) -> Value
         ensures { result ≡ own_one_time_key self.now q }
     {
-        let mut hasher = begun(self.id(), q, D_PBLC);
+        let mut hasher = prefix_hasher(self.id(), q, D_PBLC);
         for i in 0..CHAINS {
             hasher.update(self.chained(q, i as u16, STEPS));
         }

@@ -24,7 +24,7 @@ pub fn u16str(n: u16) -> [u8; 2]
 }
 
 /// A hasher of a string's first 22 bytes.
-pub fn begun(id: &[u8], number: u32, tag: u16) -> Sha256
+pub fn prefix_hasher(id: &[u8], number: u32, tag: u16) -> Sha256
     ensures { Holds256 result (id.now ++ u32str number ++ u16str tag) }
 {
     let mut hasher = Sha256::new();
@@ -38,7 +38,7 @@ pub fn begun(id: &[u8], number: u32, tag: u16) -> Sha256
 pub fn hashed(id: &[u8], number: u32, tag: u16, first: &[u8], second: &[u8]) -> Value
     ensures { result ≡ sha256 (id.now ++ u32str number ++ u16str tag ++ first.now ++ second.now) }
 {
-    let mut hasher = begun(id, number, tag);
+    let mut hasher = prefix_hasher(id, number, tag);
     hasher.update(first);
     hasher.update(second);
     hasher.finalize()

@@ -1,5 +1,5 @@
 pub mod TestLemmas
 pub mod TableLemmas
 pub mod WholeLemmas
-pub mod TypedLemmas
+pub mod TypingLemmas
 pub mod ArmLemmas

@@ -8,18 +8,18 @@ use Rattle.ivy_syntax.specs.declared.tree.Group.{Group}
 use Rattle.ivy_syntax.specs.declared.tree.Req.{Req}
 use Rattle.ivy_syntax.specs.declared.tree.Source.{Source}
 use Rattle.ivy_syntax.specs.declared.tree.Word.{Word}
-use Rattle.ivy_check.specs.Tests.{Test, Told, fault, first_of, walked}
+use Rattle.ivy_check.specs.Tests.{Test, Reported, fault, first_of, walked}
 use Rattle.ivy_check.specs.Scope.{Scope, is_name, is_parameter}
 use Rattle.ivy_check.specs.Declarations.{declared, param_tests}
 use Rattle.ivy_check.specs.Statements.{is_disposed, left, left_tests, statement_tests}
 use Rattle.ivy_check.specs.Uses.{clause_uses, word_unused, unused_tests}
-use Rattle.ivy_check.specs.TypeFault.{req_tests, inside_tests, clause_tests, contract_tests, tests_of}
+use Rattle.ivy_check.specs.TypeFault.{req_tests, clause_body_tests, clause_tests, contract_tests, tests_of}
 use Rattle.ivy_check.specs.Laws.{AreUsed, ClauseIsWhole, ContractIsWhole}
 use Rattle.ivy_check.proofs.TestLemmas.{or_first, first_of_append}
 
-none_or : (x y : Option Told) → or_first x y ≡ None → (x ≡ None) × (y ≡ None)
+none_or : (x y : Option Reported) → or_first x y ≡ None → (x ≡ None) × (y ≡ None)
 none_or None y h = (refl, h)
-none_or (Some told) y h = absurd cc
+none_or (Some reported) y h = absurd cc
 
 none_both : (a b : List Test) → first_of (a ++ b) ≡ None → (first_of a ≡ None) × (first_of b ≡ None)
 none_both a b h = none_or (first_of a) (first_of b) (sym (first_of_append a b) ∙ h)
@@ -50,9 +50,9 @@ all_used clauses =
     (λ group. none_all (λ (word : Word). IsTrue (list_any (clause_uses word.name) clauses)) (word_unused clauses)
     (λ word. none_fault 18 word.at (list_any (clause_uses word.name) clauses)) group.names)
 
-inside_whole : (contract : Contract) (clause : ClauseTree)
-    → first_of (inside_tests (record { contract = contract; clause = clause })) ≡ None → ClauseIsWhole contract clause
-inside_whole contract clause h =
+clause_body_whole : (contract : Contract) (clause : ClauseTree)
+    → first_of (clause_body_tests (record { contract = contract; clause = clause })) ≡ None → ClauseIsWhole contract clause
+clause_body_whole contract clause h =
     let scope : Scope = record { contract = contract; clause = clause } in
     let params : List Test = param_tests (Some contract) clause.params in
     let reqs : List Test = walked (req_tests scope) [] clause.reqs in
@@ -74,8 +74,8 @@ clause_whole : (contract : Contract) (before : List ClauseTree) (clause : Clause
 clause_whole contract before clause h =
     let name : List Test = declared 3 clause.name
     (list_any (λ (other : ClauseTree). is_name clause.name.name other.name) before) in
-    inside_whole contract clause
-    (none_both name (inside_tests (record { contract = contract; clause = clause })) h).1
+    clause_body_whole contract clause
+    (none_both name (clause_body_tests (record { contract = contract; clause = clause })) h).1
 
 contract_whole : (before : List Contract) (contract : Contract) → first_of (contract_tests before contract) ≡ None
     → ContractIsWhole contract

@@ -1,4 +1,4 @@
--- Declared names, and groups of parameters.
+-- Declared names, and groups of parameters. Public statements name it.
 use Rattle.std.specs.Prelude.{ℕ, Bool, false, ◌||◌, List, [], ◌++◌, Option, Some, None, is_some, not}
 use Rattle.ivy_syntax.specs.declared.tree.Word.{Word}
 use Rattle.ivy_syntax.specs.declared.tree.Group.{Group}
@@ -13,21 +13,21 @@ unfoldable pub declared : (kind : ℕ) → Word → (taken : Bool) → List Test
 declared kind word taken = fault 4 word.at (is_reserved word.name) ++ fault kind word.at taken
 
 -- the name is that of a parameter of the contract or of its value, where a clause of one is declared
-abbrev pub is_outside : Option Contract → List ℕ → Bool
-is_outside None name = false
-is_outside (Some contract) name = is_parameter name contract.params || is_name name contract.value
+abbrev pub is_contract_name : Option Contract → List ℕ → Bool
+is_contract_name None name = false
+is_contract_name (Some contract) name = is_parameter name contract.params || is_name name contract.value
 
--- a name of a group, behind others of the group and behind other groups
+-- a name of a group, after others of the group and after other groups
 abbrev pub param_name_tests : Option Contract → (groups : List Group) → (before : List Word) → Word → List Test
-param_name_tests outside groups before word =
-    declared 2 word (is_outside outside word.name || is_parameter word.name groups || is_among word.name before)
+param_name_tests enclosing groups before word =
+    declared 2 word (is_contract_name enclosing word.name || is_parameter word.name groups || is_among word.name before)
 
--- a group of parameters behind others: its names in order, and then its type
+-- a group of parameters after others: its names in order, and then its type
 abbrev pub group_tests : Option Contract → (before : List Group) → Group → List Test
-group_tests outside before group =
-    walked (param_name_tests outside before) [] group.names
+group_tests enclosing before group =
+    walked (param_name_tests enclosing before) [] group.names
     ++ fault 5 group.kind.at (not (is_some (type_named group.kind.name)))
 
 -- the parameters of a contract, or of a clause of this contract
 abbrev pub param_tests : Option Contract → List Group → List Test
-param_tests outside = walked (group_tests outside) []
+param_tests enclosing = walked (group_tests enclosing) []

@@ -1,4 +1,4 @@
--- The functions of Ivy: their names, and what each wants as its arguments.
+-- The functions of Ivy: their names, and the types of their parameters. Public statements name it.
 use Rattle.std.specs.Prelude.{ℕ, Bool, ◌||◌, List, Option, Some, None, codes, bytes_eq, is_some}
 use Rattle.std.specs.Prelude.{if◌then◌else◌}
 use Rattle.ivy_check.specs.declared.types.IvyType.TheVariants as type
@@ -6,9 +6,9 @@ use Rattle.ivy_check.specs.declared.functions.Function.{Function}
 use Rattle.ivy_check.specs.declared.functions.Function.TheVariants.{Abs, Min, Max, Size, BytesOf, Sha256, Concat}
 use Rattle.ivy_check.specs.declared.functions.Function.TheVariants.{ConcatPush, CheckTxSig, CheckTxMultiSig, Before}
 use Rattle.ivy_check.specs.declared.functions.Function.TheVariants.{After}
-use Rattle.ivy_check.specs.declared.functions.Want.TheVariants.{Exactly, Numeric, Plain, Any, ListOf}
-use Rattle.ivy_check.specs.declared.functions.Wants.{Wants}
-use Rattle.ivy_check.specs.declared.functions.Wants.TheVariants.{One, Two}
+use Rattle.ivy_check.specs.declared.functions.ParamType.TheVariants.{Exactly, Numeric, Plain, Any, ListOf}
+use Rattle.ivy_check.specs.declared.functions.ParamTypes.{ParamTypes}
+use Rattle.ivy_check.specs.declared.functions.ParamTypes.TheVariants.{One, Two}
 use Rattle.ivy_check.specs.Types.{type_named}
 
 -- the function that a name names
@@ -28,20 +28,20 @@ function_named name =
     else if bytes_eq name (codes "after") then Some After
     else None
 
--- what a function wants as its arguments
-abbrev pub wants : Function → Wants
-wants Abs = One Numeric
-wants Min = Two Numeric Numeric
-wants Max = Two Numeric Numeric
-wants Size = One Plain
-wants BytesOf = One Any
-wants Sha256 = One Plain
-wants Concat = Two (Exactly type.String) (Exactly type.String)
-wants ConcatPush = Two (Exactly type.String) (Exactly type.String)
-wants CheckTxSig = Two (Exactly type.PublicKey) (Exactly type.Signature)
-wants CheckTxMultiSig = Two (ListOf type.PublicKey) (ListOf type.Signature)
-wants Before = One (Exactly type.Time)
-wants After = One (Exactly type.Time)
+-- the types of a function's parameters
+abbrev pub param_types : Function → ParamTypes
+param_types Abs = One Numeric
+param_types Min = Two Numeric Numeric
+param_types Max = Two Numeric Numeric
+param_types Size = One Plain
+param_types BytesOf = One Any
+param_types Sha256 = One Plain
+param_types Concat = Two (Exactly type.String) (Exactly type.String)
+param_types ConcatPush = Two (Exactly type.String) (Exactly type.String)
+param_types CheckTxSig = Two (Exactly type.PublicKey) (Exactly type.Signature)
+param_types CheckTxMultiSig = Two (ListOf type.PublicKey) (ListOf type.Signature)
+param_types Before = One (Exactly type.Time)
+param_types After = One (Exactly type.Time)
 
 -- a type's name or a function's, which may not be declared
 abbrev pub is_reserved : List ℕ → Bool

@@ -1,4 +1,4 @@
--- What holds of type faults.
+-- What holds of type faults. Public statements name it.
 use Rattle.std.specs.Prelude.{IsTrue, List, [], ◌∷◌, None}
 use Rattle.std.specs.List.{list_any, AllByRecursion}
 use Rattle.wire.specs.Tables.{First, OneAnswer}
@@ -8,11 +8,11 @@ use Rattle.ivy_syntax.specs.declared.tree.Group.{Group}
 use Rattle.ivy_syntax.specs.declared.tree.Source.{Source}
 use Rattle.ivy_check.specs.Statements.{is_disposed}
 use Rattle.ivy_check.specs.Uses.{clause_uses}
-use Rattle.ivy_check.specs.TypeFault.{lines_of}
+use Rattle.ivy_check.specs.TypeFault.{causes_of}
 
 -- of every source there is one answer: one fault, or none
 abbrev pub EachHasOneAnswer : Type 0
-EachHasOneAnswer = (source : Source) → OneAnswer (lines_of source)
+EachHasOneAnswer = (source : Source) → OneAnswer (causes_of source)
 
 -- each parameter of these groups is used by one of these clauses
 abbrev pub AreUsed : List ClauseTree → List Group → Type 0
@@ -31,4 +31,4 @@ pub record ContractIsWhole (contract : Contract) : Type 0 where
 
 -- In a source with no fault no value is left and no parameter unused.
 abbrev pub NothingIsLeft : Type 0
-NothingIsLeft = (source : Source) → First (lines_of source) None → AllByRecursion ContractIsWhole source.contracts
+NothingIsLeft = (source : Source) → First (causes_of source) None → AllByRecursion ContractIsWhole source.contracts

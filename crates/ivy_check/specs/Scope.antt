@@ -1,4 +1,4 @@
--- What names mean where an expression stands: in a clause of a contract.
+-- What names mean where an expression stands: in a clause of a contract. Public statements name it.
 use Rattle.std.specs.Prelude.{ℕ, Bool, not, ◌&&◌, ◌||◌, List, [], ◌∷◌, Option, Some, None, bytes_eq, is_some}
 use Rattle.std.specs.Prelude.{option_and_then, if◌then◌else◌}
 use Rattle.std.specs.List.{list_any}

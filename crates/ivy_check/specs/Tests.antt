@@ -1,10 +1,10 @@
--- Tests in their order, of which the first that holds is told, by its place and its kind.
+-- Tests in their order, of which the first that holds is reported, by its place and kind. Public statements name it.
 use Rattle.std.specs.Prelude.{ℕ, Bool, List, [], ◌∷◌, ◌++◌, Option, Some, None, IsTrue, if◌then◌else◌}
-use Rattle.wire.specs.Tables.{Line, Tells}
+use Rattle.wire.specs.Tables.{Cause, Reports}
 
--- what is told: the place and the kind of a fault
-abbrev pub Told : Type 0
-Told = ℕ × ℕ
+-- what is reported: the place and the kind of a fault
+abbrev pub Reported : Type 0
+Reported = ℕ × ℕ
 
 -- a test: whether it holds, and the fault that stands then
 pub record Test : Type 0 where
@@ -16,17 +16,17 @@ pub record Test : Type 0 where
 abbrev pub fault : (kind at : ℕ) → Bool → List Test
 fault kind at holds = record { holds = holds; at = at; kind = kind } ∷ []
 
--- a test as a line of a table
-abbrev pub line_of : Test → Line Told
-line_of test = Tells (IsTrue test.holds) (test.at, test.kind)
+-- a test as a cause of a table
+abbrev pub cause_of : Test → Cause Reported
+cause_of test = Reports (IsTrue test.holds) (test.at, test.kind)
 
 -- tests as a table
-abbrev pub lines : List Test → List (Line Told)
-lines [] = []
-lines (test ∷ tests) = line_of test ∷ lines tests
+abbrev pub causes : List Test → List (Cause Reported)
+causes [] = []
+causes (test ∷ tests) = cause_of test ∷ causes tests
 
--- what the first test that holds tells
-abbrev pub first_of : List Test → Option Told
+-- what the first test that holds reports
+abbrev pub first_of : List Test → Option Reported
 first_of [] = None
 first_of (test ∷ tests) = if test.holds then Some (test.at, test.kind) else first_of tests
 

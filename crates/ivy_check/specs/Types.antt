@@ -1,4 +1,4 @@
--- The types of Ivy.
+-- The types of Ivy. Public statements name it.
 use Rattle.std.specs.Prelude.{ℕ, Bool, true, false, List, Option, Some, None, codes, bytes_eq, nat_eq}
 use Rattle.std.specs.Prelude.{if◌then◌else◌}
 use Rattle.ivy_check.specs.declared.types.IvyType.{IvyType}
@@ -54,21 +54,21 @@ is_plain _ = true
 -- ---- what has a type, or none
 
 -- it has this type
-abbrev pub is_of : IvyType → Option IvyType → Bool
-is_of type None = false
-is_of type (Some own) = same_type own type
+abbrev pub has_type : IvyType → Option IvyType → Bool
+has_type expected None = false
+has_type expected (Some type) = same_type type expected
 
 -- both have one type
-abbrev pub are_same : Option IvyType → Option IvyType → Bool
-are_same None other = false
-are_same (Some own) other = is_of own other
+abbrev pub have_one_type : Option IvyType → Option IvyType → Bool
+have_one_type None other = false
+have_one_type (Some type) other = has_type type other
 
 -- it has a numeric type
-abbrev pub has_numeric : Option IvyType → Bool
-has_numeric None = false
-has_numeric (Some own) = is_numeric own
+abbrev pub has_numeric_type : Option IvyType → Bool
+has_numeric_type None = false
+has_numeric_type (Some type) = is_numeric type
 
 -- it has a type that is neither numeric nor Boolean
-abbrev pub has_plain : Option IvyType → Bool
-has_plain None = false
-has_plain (Some own) = is_plain own
+abbrev pub has_plain_type : Option IvyType → Bool
+has_plain_type None = false
+has_plain_type (Some type) = is_plain type

@@ -1,4 +1,4 @@
--- Uses of parameters.
+-- Uses of parameters. Public statements name it.
 use Rattle.std.specs.Prelude.{ℕ, Bool, false, not, ◌||◌, List, bytes_eq}
 use Rattle.std.specs.List.{list_any, flat_map}
 use Rattle.ivy_syntax.specs.declared.tree.Expr.{Expr, fold-Expr}

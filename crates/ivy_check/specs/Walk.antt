@@ -1,15 +1,16 @@
--- What a function of the walk answers: the first test that holds, or where none does what it found.
+-- What a function of the walk answers: the first test that holds, or where none does what it found. Only contracts of
+-- private functions name it.
 use Rattle.std.specs.Prelude.{ℕ, Option, Some, None, Result, Ok, Err}
 use Rattle.ivy_check.specs.declared.fault.Fault.{Fault}
 use Rattle.ivy_check.specs.declared.fault.Kind.{Kind}
 use Rattle.ivy_check.specs.declared.fault.Kind.TheVariants as kind
-use Rattle.ivy_check.specs.declared.scope.Within.{Within}
-use Rattle.ivy_check.specs.Tests.{Told}
+use Rattle.ivy_check.specs.declared.scope.Scope as code
+use Rattle.ivy_check.specs.Tests.{Reported}
 use Rattle.ivy_check.specs.Scope.{Scope}
 
 -- where the code says that an expression stands
-abbrev pub scope_of : Within → Scope
-scope_of within = record { contract = within.contract.now; clause = within.clause.now }
+abbrev pub scope_of : code.Scope → Scope
+scope_of scope = record { contract = scope.contract.now; clause = scope.clause.now }
 
 abbrev pub kind_number : Kind → ℕ
 kind_number kind.ContractTwice = 1
@@ -31,6 +32,6 @@ kind_number kind.DisposedTwice = 16
 kind_number kind.ValueLeft = 17
 kind_number kind.Unused = 18
 
-abbrev pub told : {X : Type 0} → Result X Fault → Option Told
-told (Ok x) = None
-told (Err fault) = Some (fault.at, kind_number fault.kind)
+abbrev pub reported : {X : Type 0} → Result X Fault → Option Reported
+reported (Ok x) = None
+reported (Err fault) = Some (fault.at, kind_number fault.kind)

@@ -1,33 +1,34 @@
+//! Contracts, clauses and requirements, in the order of their tests.
 ghost use Rattle.std.specs.Prelude.{◌≡◌, [], take, Some};
 ghost use Rattle.std.specs.List.{list_any};
 ghost use Rattle.ivy_check.specs.Tests.{first_of, walked};
 ghost use Rattle.ivy_check.specs.Scope.{is_name};
-ghost use Rattle.ivy_check.specs.TypeFault.{req_tests, inside_tests, clause_tests, contract_tests};
-ghost use Rattle.ivy_check.specs.Walk.{scope_of, told};
+ghost use Rattle.ivy_check.specs.TypeFault.{req_tests, clause_body_tests, clause_tests, contract_tests};
+ghost use Rattle.ivy_check.specs.Walk.{scope_of, reported};
 
-use crate::declare::{declared, is_outside, params};
+use crate::declare::{declared, is_contract_name, params};
 use crate::fault::{Fault, Kind};
-use crate::scope::{Within, is_name, is_parameter, is_required};
+use crate::scope::{Scope, is_name, is_parameter, is_required};
 use crate::statement::{all_disposed, sides, statements};
 use crate::uses::all_used;
 use ivy_syntax::{ClauseTree, Contract, Req};
 use std::slice;
 
-// A requirement behind others: its name, its amount and its asset.
-#[tactic(auto, using(crate::proofs::TypedLemmas::walking))]
-fn requirement(scope: Within, before: &[Req], req: &Req) -> Result<(), Fault>
-    ensures { told result ≡ first_of (req_tests (scope_of scope.entry) before.now req.now) }
+// A requirement after others: its name, its amount and its asset.
+#[tactic(auto, using(crate::proofs::TypingLemmas::walking))]
+fn requirement(scope: Scope, before: &[Req], req: &Req) -> Result<(), Fault>
+    ensures { reported result ≡ first_of (req_tests (scope_of scope.entry) before.now req.now) }
 {
     let name = req.name.name.as_slice();
-    let taken = is_outside(Some(scope.contract), name)
+    let taken = is_contract_name(Some(scope.contract), name)
         || is_parameter(name, scope.clause.params.as_slice())
         || is_required(name, before);
     declared(Kind::NameTwice, &req.name, taken)?;
     sides(scope, req)
 }
 
-fn requirements(scope: Within, reqs: &[Req]) -> Result<(), Fault>
-    ensures { told result ≡ first_of (walked (req_tests (scope_of scope.entry)) [] reqs.now) }
+fn requirements(scope: Scope, reqs: &[Req]) -> Result<(), Fault>
+    ensures { reported result ≡ first_of (walked (req_tests (scope_of scope.entry)) [] reqs.now) }
 {
     for (k, req) in reqs.iter().enumerate() {
         requirement(scope, &reqs[..k], req)?;
@@ -36,9 +37,9 @@ fn requirements(scope: Within, reqs: &[Req]) -> Result<(), Fault>
 }
 
 // What stands in a clause, and what is left or unused at its end.
-#[tactic(auto, using(crate::proofs::TypedLemmas::walking))]
-fn inside(scope: Within) -> Result<(), Fault>
-    ensures { told result ≡ first_of (inside_tests (scope_of scope.entry)) }
+#[tactic(auto, using(crate::proofs::TypingLemmas::walking))]
+fn clause_body(scope: Scope) -> Result<(), Fault>
+    ensures { reported result ≡ first_of (clause_body_tests (scope_of scope.entry)) }
 {
     let groups = scope.clause.params.as_slice();
     params(Some(scope.contract), groups)?;
@@ -55,18 +56,18 @@ fn has_clause(name: &[u8], clauses: &[ClauseTree]) -> bool
     clauses.iter().any(|other| is_name(name, &other.name))
 }
 
-// A clause of a contract behind others.
-#[tactic(auto, using(crate::proofs::TypedLemmas::walking))]
+// A clause of a contract after others.
+#[tactic(auto, using(crate::proofs::TypingLemmas::walking))]
 fn clause(contract: &Contract, before: &[ClauseTree], clause: &ClauseTree) -> Result<(), Fault>
-    ensures { told result ≡ first_of (clause_tests contract.now before.now clause.now) }
+    ensures { reported result ≡ first_of (clause_tests contract.now before.now clause.now) }
 {
     let taken = has_clause(clause.name.name.as_slice(), before);
     declared(Kind::ClauseTwice, &clause.name, taken)?;
-    inside(Within { contract, clause })
+    clause_body(Scope { contract, clause })
 }
 
 fn clauses(contract: &Contract, clauses: &[ClauseTree]) -> Result<(), Fault>
-    ensures { told result ≡ first_of (walked (clause_tests contract.now) [] clauses.now) }
+    ensures { reported result ≡ first_of (walked (clause_tests contract.now) [] clauses.now) }
 {
     for (k, one) in clauses.iter().enumerate() {
         clause(contract, &clauses[..k], one)?;
@@ -81,10 +82,10 @@ fn has_contract(name: &[u8], contracts: &[Contract]) -> bool
     contracts.iter().any(|other| is_name(name, &other.name))
 }
 
-// A contract behind others.
-#[tactic(auto, using(crate::proofs::TypedLemmas::walking))]
+// A contract after others.
+#[tactic(auto, using(crate::proofs::TypingLemmas::walking))]
 fn contract(before: &[Contract], contract: &Contract) -> Result<(), Fault>
-    ensures { told result ≡ first_of (contract_tests before.now contract.now) }
+    ensures { reported result ≡ first_of (contract_tests before.now contract.now) }
 {
     let groups = contract.params.as_slice();
     let value = &contract.value;
@@ -102,7 +103,7 @@ fn contract(before: &[Contract], contract: &Contract) -> Result<(), Fault>
 
 /// The contracts of a source, in order.
 pub(crate) fn contracts(contracts: &[Contract]) -> Result<(), Fault>
-    ensures { told result ≡ first_of (walked contract_tests [] contracts.now) }
+    ensures { reported result ≡ first_of (walked contract_tests [] contracts.now) }
 {
     for (k, one) in contracts.iter().enumerate() {
         contract(&contracts[..k], one)?;

@@ -1,27 +1,30 @@
+//! The typing of expressions.
 ghost use Rattle.std.specs.Prelude.{◌≡◌, not, length, map, IfOk};
 ghost use Rattle.ivy_check.specs.Tests.{fault, first_of};
 ghost use Rattle.ivy_check.specs.Functions.{function_named};
 ghost use Rattle.ivy_check.specs.Scope.{name_type};
-ghost use Rattle.ivy_check.specs.Expressions.{plainly, list_own, unary_own, binary_type, given_one, given_two};
-ghost use Rattle.ivy_check.specs.Expressions.{takes_operand, takes_operands, typed, name_tests, operand_tests};
+ghost use Rattle.ivy_check.specs.Expressions.{of_type, list_of, unary_result, binary_type, result_of_one};
+ghost use Rattle.ivy_check.specs.Expressions.{result_of_two};
+ghost use Rattle.ivy_check.specs.Expressions.{takes_operand, takes_operands, typing, name_tests, operand_tests};
 ghost use Rattle.ivy_check.specs.Expressions.{whole_tests, member_tests, list_tests, argument_tests, both_tests};
 ghost use Rattle.ivy_check.specs.Expressions.{call_tests, call_type};
-ghost use Rattle.ivy_check.specs.Walk.{scope_of, told};
+ghost use Rattle.ivy_check.specs.Walk.{scope_of, reported};
 
 use crate::fault::{Fault, Kind, refuse_if};
-use crate::functions::{Function, Want, Wants};
+use crate::functions::{Function, ParamType, ParamTypes};
+use crate::inferred::Inferred;
 use crate::operators::{
-    agree, are_enough, binary_type, given_one, given_two, takes_operand, takes_operands, unary_own,
+    agree, binary_type, has_enough_keys, result_of_one, result_of_two, takes_operand,
+    takes_operands, unary_result,
 };
-use crate::own::Own;
-use crate::scope::Within;
+use crate::scope::Scope;
 use crate::types::IvyType;
 use ivy_syntax::{Expr, Form, Op};
 
 // A name that is used.
-fn named(scope: Within, name: &[u8], at: u64) -> Result<Own, Fault>
-    ensures fault { told result ≡ first_of (name_tests (scope_of scope.entry) name.now at) }
-    ensures own { IfOk result (λ own. own ≡ plainly (name_type (scope_of scope.entry) name.now)) }
+fn named(scope: Scope, name: &[u8], at: u64) -> Result<Inferred, Fault>
+    ensures fault { reported result ≡ first_of (name_tests (scope_of scope.entry) name.now at) }
+    ensures inferred { IfOk result (λ inferred. inferred ≡ of_type (name_type (scope_of scope.entry) name.now)) }
 {
     let is_value = scope.is_value(name);
     refuse_if(
@@ -30,26 +33,27 @@ fn named(scope: Within, name: &[u8], at: u64) -> Result<Own, Fault>
         at,
     )?;
     refuse_if(is_value, Kind::ValueUsed, at)?;
-    Ok(Own::plainly(scope.name_type(name)))
+    Ok(Inferred::of_type(scope.name_type(name)))
 }
 
-// What an expression is by itself, or the first of its faults. A list may have members of this type, or of any.
+// What is inferred of an expression by itself, or the first of its faults. A list may have members of this type, or of
+// any.
 #[cycle(expression)]
-#[tactic(auto, using(crate::proofs::TypedLemmas::walking), unfolding(crate::specs::Expressions::typed))]
-pub(crate) fn expression(scope: Within, e: &Expr, each: Option<IvyType>) -> Result<Own, Fault>
-    ensures fault { told result ≡ first_of ((typed (scope_of scope.entry) e.now).tests each) }
-    ensures own { IfOk result (λ own. own ≡ (typed (scope_of scope.entry) e.now).own) }
+#[tactic(auto, using(crate::proofs::TypingLemmas::walking), unfolding(crate::specs::Expressions::typing))]
+pub(crate) fn expression(scope: Scope, e: &Expr, each: Option<IvyType>) -> Result<Inferred, Fault>
+    ensures fault { reported result ≡ first_of ((typing (scope_of scope.entry) e.now).tests each) }
+    ensures inferred { IfOk result (λ inferred. inferred ≡ (typing (scope_of scope.entry) e.now).inferred) }
 {
     match &e.form {
-        Form::Number(_) => Ok(Own::number()),
-        Form::Truth(_) => Ok(Own::plainly(Some(IvyType::Boolean))),
-        Form::Hex(_) | Form::Quoted(_) => Ok(Own::plainly(Some(IvyType::String))),
+        Form::Number(_) => Ok(Inferred::number()),
+        Form::Truth(_) => Ok(Inferred::of_type(Some(IvyType::Boolean))),
+        Form::Hex(_) | Form::Quoted(_) => Ok(Inferred::of_type(Some(IvyType::String))),
         Form::Name(name) => named(scope, name.as_slice(), e.at),
         Form::Call { name, args } => call(scope, name.as_slice(), e.at, args.as_slice()),
         Form::Members(members) => list(scope, members.as_slice(), each),
         Form::Unary { op, arg } => {
-            let own = operand(scope, arg.get())?;
-            unary(*op, e.at, own)
+            let inferred = operand(scope, arg.get())?;
+            unary(*op, e.at, inferred)
         }
         Form::Binary { op, left, right } => {
             let first = operand(scope, left.get())?;
@@ -59,74 +63,74 @@ pub(crate) fn expression(scope: Within, e: &Expr, each: Option<IvyType>) -> Resu
     }
 }
 
-fn unary(op: Op, at: u64, own: Own) -> Result<Own, Fault>
-    ensures fault { told result ≡ first_of (fault 10 at (not (takes_operand op own))) }
-    ensures own { IfOk result (λ found. found ≡ unary_own op own) }
+fn unary(op: Op, at: u64, inferred: Inferred) -> Result<Inferred, Fault>
+    ensures fault { reported result ≡ first_of (fault 10 at (not (takes_operand op inferred))) }
+    ensures inferred { IfOk result (λ found. found ≡ unary_result op inferred) }
 {
-    refuse_if(!takes_operand(op, own), Kind::WrongOperand, at)?;
-    Ok(unary_own(op, own))
+    refuse_if(!takes_operand(op, inferred), Kind::WrongOperand, at)?;
+    Ok(unary_result(op, inferred))
 }
 
-fn binary(op: Op, at: u64, left: Own, right: Own) -> Result<Own, Fault>
-    ensures fault { told result ≡ first_of (fault 10 at (not (takes_operands op left right))) }
-    ensures own { IfOk result (λ found. found ≡ plainly (binary_type op left right)) }
+fn binary(op: Op, at: u64, left: Inferred, right: Inferred) -> Result<Inferred, Fault>
+    ensures fault { reported result ≡ first_of (fault 10 at (not (takes_operands op left right))) }
+    ensures inferred { IfOk result (λ found. found ≡ of_type (binary_type op left right)) }
 {
     refuse_if(!takes_operands(op, left, right), Kind::WrongOperand, at)?;
-    Ok(Own::plainly(binary_type(op, left, right)))
+    Ok(Inferred::of_type(binary_type(op, left, right)))
 }
 
 // An operand, which is no list.
 #[cycle(expression)]
-#[tactic(auto, using(crate::proofs::TypedLemmas::walking))]
-fn operand(scope: Within, e: &Expr) -> Result<Own, Fault>
-    ensures fault { told result ≡ first_of (operand_tests (typed (scope_of scope.entry) e.now)) }
-    ensures own { IfOk result (λ own. own ≡ (typed (scope_of scope.entry) e.now).own) }
+#[tactic(auto, using(crate::proofs::TypingLemmas::walking))]
+fn operand(scope: Scope, e: &Expr) -> Result<Inferred, Fault>
+    ensures fault { reported result ≡ first_of (operand_tests (typing (scope_of scope.entry) e.now)) }
+    ensures inferred { IfOk result (λ inferred. inferred ≡ (typing (scope_of scope.entry) e.now).inferred) }
 {
-    let own = expression(scope, e, None)?;
-    refuse_if(own.is_list(), Kind::WrongArgument, e.at)?;
-    Ok(own)
+    let inferred = expression(scope, e, None)?;
+    refuse_if(inferred.is_list(), Kind::WrongArgument, e.at)?;
+    Ok(inferred)
 }
 
 /// A whole expression, which is no list.
-#[tactic(auto, using(crate::proofs::TypedLemmas::walking))]
-pub(crate) fn whole(scope: Within, e: &Expr) -> Result<Own, Fault>
-    ensures fault { told result ≡ first_of (whole_tests (typed (scope_of scope.entry) e.now)) }
-    ensures own { IfOk result (λ own. own ≡ (typed (scope_of scope.entry) e.now).own) }
+#[tactic(auto, using(crate::proofs::TypingLemmas::walking))]
+pub(crate) fn whole_expression(scope: Scope, e: &Expr) -> Result<Inferred, Fault>
+    ensures fault { reported result ≡ first_of (whole_tests (typing (scope_of scope.entry) e.now)) }
+    ensures inferred { IfOk result (λ inferred. inferred ≡ (typing (scope_of scope.entry) e.now).inferred) }
 {
-    let own = expression(scope, e, None)?;
-    refuse_if(own.is_list(), Kind::WrongArgument, e.from)?;
-    Ok(own)
+    let inferred = expression(scope, e, None)?;
+    refuse_if(inferred.is_list(), Kind::WrongArgument, e.from)?;
+    Ok(inferred)
 }
 
 // The members of a list, which are of this type, or of any.
 #[cycle(expression)]
-#[tactic(auto, using(crate::proofs::TypedLemmas::walking))]
-fn list(scope: Within, members: &[Expr], each: Option<IvyType>) -> Result<Own, Fault>
-    ensures fault { told result ≡ first_of (list_tests each (map (typed (scope_of scope.entry)) members.now)) }
-    ensures own { IfOk result (λ own. own ≡ list_own (length members.now)) }
+#[tactic(auto, using(crate::proofs::TypingLemmas::walking))]
+fn list(scope: Scope, members: &[Expr], each: Option<IvyType>) -> Result<Inferred, Fault>
+    ensures fault { reported result ≡ first_of (list_tests each (map (typing (scope_of scope.entry)) members.now)) }
+    ensures inferred { IfOk result (λ inferred. inferred ≡ list_of (length members.now)) }
 {
     for e in members {
         member(scope, e, each)?;
     }
-    Ok(Own::list(members.len()))
+    Ok(Inferred::list(members.len()))
 }
 
 #[cycle(expression)]
-#[tactic(auto, using(crate::proofs::TypedLemmas::walking))]
-fn member(scope: Within, e: &Expr, each: Option<IvyType>) -> Result<(), Fault>
-    ensures { told result ≡ first_of (member_tests each (typed (scope_of scope.entry) e.now)) }
+#[tactic(auto, using(crate::proofs::TypingLemmas::walking))]
+fn member(scope: Scope, e: &Expr, each: Option<IvyType>) -> Result<(), Fault>
+    ensures { reported result ≡ first_of (member_tests each (typing (scope_of scope.entry) e.now)) }
 {
-    let own = expression(scope, e, None)?;
-    refuse_if(!own.is_member(each), Kind::WrongArgument, e.from)
+    let inferred = expression(scope, e, None)?;
+    refuse_if(!inferred.is_member(each), Kind::WrongArgument, e.from)
 }
 
 #[cycle(expression)]
-#[tactic(auto, using(crate::proofs::TypedLemmas::walking))]
-fn call(scope: Within, name: &[u8], at: u64, args: &[Expr]) -> Result<Own, Fault>
-    ensures fault { told result ≡ first_of (call_tests (function_named name.now) at
-        (map (typed (scope_of scope.entry)) args.now)) }
-    ensures own { IfOk result (λ own. own ≡ plainly (call_type (function_named name.now)
-        (map (typed (scope_of scope.entry)) args.now))) }
+#[tactic(auto, using(crate::proofs::TypingLemmas::walking))]
+fn call(scope: Scope, name: &[u8], at: u64, args: &[Expr]) -> Result<Inferred, Fault>
+    ensures fault { reported result ≡ first_of (call_tests (function_named name.now) at
+        (map (typing (scope_of scope.entry)) args.now)) }
+    ensures inferred { IfOk result (λ inferred. inferred ≡ of_type (call_type (function_named name.now)
+        (map (typing (scope_of scope.entry)) args.now))) }
 {
     let Some(function) = Function::named(name) else {
         return Err(Fault {
@@ -134,15 +138,15 @@ fn call(scope: Within, name: &[u8], at: u64, args: &[Expr]) -> Result<Own, Fault
             kind: Kind::UnknownFunction,
         });
     };
-    match (function.wants(), args) {
-        (Wants::One(want), [e]) => {
-            let own = argument(scope, want, e)?;
-            Ok(Own::plainly(given_one(function, own)))
+    match (function.param_types(), args) {
+        (ParamTypes::One(param), [e]) => {
+            let inferred = argument(scope, param, e)?;
+            Ok(Inferred::of_type(result_of_one(function, inferred)))
         }
-        (Wants::Two(v, w), [a, b]) => {
+        (ParamTypes::Two(v, w), [a, b]) => {
             let first = argument(scope, v, a)?;
             let second = argument(scope, w, b)?;
-            two(function, at, b.from, first, second)
+            call_of_two(function, at, b.from, first, second)
         }
         _ => Err(Fault {
             at,
@@ -151,28 +155,34 @@ fn call(scope: Within, name: &[u8], at: u64, args: &[Expr]) -> Result<Own, Fault
     }
 }
 
-// A call of two arguments, of which each is as it is wanted. The second has this first byte.
-fn two(function: Function, at: u64, from: u64, first: Own, second: Own) -> Result<Own, Fault>
-    ensures fault { told result ≡ first_of (both_tests function at from first second) }
-    ensures own { IfOk result (λ own. own ≡ plainly (given_two function first second)) }
+// A call of two arguments, each of which fits its parameter. The second has this first byte.
+fn call_of_two(
+    function: Function,
+    at: u64,
+    from: u64,
+    first: Inferred,
+    second: Inferred,
+) -> Result<Inferred, Fault>
+    ensures fault { reported result ≡ first_of (both_tests function at from first second) }
+    ensures inferred { IfOk result (λ inferred. inferred ≡ of_type (result_of_two function first second)) }
 {
     refuse_if(!agree(function, first, second), Kind::WrongArgument, from)?;
     refuse_if(
-        !are_enough(function, first, second),
+        !has_enough_keys(function, first, second),
         Kind::ArgumentCount,
         at,
     )?;
-    Ok(Own::plainly(given_two(function, first, second)))
+    Ok(Inferred::of_type(result_of_two(function, first, second)))
 }
 
 // An argument, with its type.
 #[cycle(expression)]
-#[tactic(auto, using(crate::proofs::TypedLemmas::walking))]
-fn argument(scope: Within, want: Want, e: &Expr) -> Result<Own, Fault>
-    ensures fault { told result ≡ first_of (argument_tests want (typed (scope_of scope.entry) e.now)) }
-    ensures own { IfOk result (λ own. own ≡ (typed (scope_of scope.entry) e.now).own) }
+#[tactic(auto, using(crate::proofs::TypingLemmas::walking))]
+fn argument(scope: Scope, param: ParamType, e: &Expr) -> Result<Inferred, Fault>
+    ensures fault { reported result ≡ first_of (argument_tests param (typing (scope_of scope.entry) e.now)) }
+    ensures inferred { IfOk result (λ inferred. inferred ≡ (typing (scope_of scope.entry) e.now).inferred) }
 {
-    let own = expression(scope, e, want.members())?;
-    refuse_if(!own.is_wanted(want), Kind::WrongArgument, e.from)?;
-    Ok(own)
+    let inferred = expression(scope, e, param.member_type())?;
+    refuse_if(!inferred.fits_param(param), Kind::WrongArgument, e.from)?;
+    Ok(inferred)
 }

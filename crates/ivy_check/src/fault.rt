@@ -1,13 +1,14 @@
+//! Type faults and their kinds.
 ghost use Rattle.std.specs.Prelude.{◌≡◌};
 ghost use Rattle.ivy_check.specs.Tests.{fault, first_of};
-ghost use Rattle.ivy_check.specs.Walk.{kind_number, told};
+ghost use Rattle.ivy_check.specs.Walk.{kind_number, reported};
 
 /// Why a source is refused.
 #[derive(Clone, Copy, Debug, PartialEq, Eq)]
 pub enum TypeFault {
     /// The first type fault of the source: its place, in bytes from the text's start, and its kind, from 1 to 18.
     At { at: u64, kind: u8 },
-    /// Memory was wanted and not found.
+    /// Memory ran out.
     NoMemory,
 }
 
@@ -61,7 +62,7 @@ impl Kind {
 
 /// A fault of this kind stands at this place where that holds.
 pub(crate) fn refuse_if(holds: bool, kind: Kind, at: u64) -> Result<(), Fault>
-    ensures { told result ≡ first_of (fault (kind_number kind) at holds) }
+    ensures { reported result ≡ first_of (fault (kind_number kind) at holds) }
 {
     if holds {
         Err(Fault { at, kind })

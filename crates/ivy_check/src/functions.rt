@@ -1,5 +1,6 @@
+//! The functions of Ivy and the types of their parameters.
 ghost use Rattle.std.specs.Prelude.{◌≡◌};
-ghost use Rattle.ivy_check.specs.Functions.{function_named, wants, is_reserved};
+ghost use Rattle.ivy_check.specs.Functions.{function_named, param_types, is_reserved};
 
 use crate::types::IvyType;
 
@@ -20,9 +21,9 @@ pub(crate) enum Function {
     After,
 }
 
-/// What is wanted as an argument.
+/// The type of a parameter of a function.
 #[derive(Clone, Copy)]
-pub(crate) enum Want {
+pub(crate) enum ParamType {
     Exactly(IvyType),
     Numeric,
     /// Of a type that is neither numeric nor Boolean.
@@ -33,11 +34,11 @@ pub(crate) enum Want {
     ListOf(IvyType),
 }
 
-/// What is wanted as the arguments of a call.
+/// The types of the parameters of a function.
 #[derive(Clone, Copy)]
-pub(crate) enum Wants {
-    One(Want),
-    Two(Want, Want),
+pub(crate) enum ParamTypes {
+    One(ParamType),
+    Two(ParamType, ParamType),
 }
 
 impl Function {
@@ -74,28 +75,33 @@ impl Function {
         }
     }
 
-    /// What it wants as its arguments.
-    pub(crate) fn wants(self) -> Wants
-        ensures { result ≡ wants self }
+    /// The types of its parameters.
+    pub(crate) fn param_types(self) -> ParamTypes
+        ensures { result ≡ param_types self }
     {
         match self {
-            Function::Abs => Wants::One(Want::Numeric),
-            Function::Min | Function::Max => Wants::Two(Want::Numeric, Want::Numeric),
-            Function::Size | Function::Sha256 => Wants::One(Want::Plain),
-            Function::BytesOf => Wants::One(Want::Any),
-            Function::Concat | Function::ConcatPush => Wants::Two(
-                Want::Exactly(IvyType::String),
-                Want::Exactly(IvyType::String),
+            Function::Abs => ParamTypes::One(ParamType::Numeric),
+            Function::Min | Function::Max => ParamTypes::Two(
+                ParamType::Numeric,
+                ParamType::Numeric,
             ),
-            Function::CheckTxSig => Wants::Two(
-                Want::Exactly(IvyType::PublicKey),
-                Want::Exactly(IvyType::Signature),
+            Function::Size | Function::Sha256 => ParamTypes::One(ParamType::Plain),
+            Function::BytesOf => ParamTypes::One(ParamType::Any),
+            Function::Concat | Function::ConcatPush => ParamTypes::Two(
+                ParamType::Exactly(IvyType::String),
+                ParamType::Exactly(IvyType::String),
             ),
-            Function::CheckTxMultiSig => Wants::Two(
-                Want::ListOf(IvyType::PublicKey),
-                Want::ListOf(IvyType::Signature),
+            Function::CheckTxSig => ParamTypes::Two(
+                ParamType::Exactly(IvyType::PublicKey),
+                ParamType::Exactly(IvyType::Signature),
             ),
-            Function::Before | Function::After => Wants::One(Want::Exactly(IvyType::Time)),
+            Function::CheckTxMultiSig => ParamTypes::Two(
+                ParamType::ListOf(IvyType::PublicKey),
+                ParamType::ListOf(IvyType::Signature),
+            ),
+            Function::Before | Function::After => ParamTypes::One(ParamType::Exactly(
+                IvyType::Time,
+            )),
         }
     }
 }

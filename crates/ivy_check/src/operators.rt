@@ -1,57 +1,59 @@
+//! Which operands and arguments an operation or a function takes, and the type of what it gives.
 ghost use Rattle.std.specs.Prelude.{◌≡◌};
-ghost use Rattle.ivy_check.specs.Expressions.{plainly, number_own, list_own, is_list, count, beside, asked};
-ghost use Rattle.ivy_check.specs.Expressions.{are_alike, are_numbers, are_booleans, takes_operand, unary_own};
-ghost use Rattle.ivy_check.specs.Expressions.{takes_operands, binary_type, is_wanted, wanted_members, agree};
-ghost use Rattle.ivy_check.specs.Expressions.{are_enough, given_one, given_two, is_member};
+ghost use Rattle.ivy_check.specs.Expressions.{of_type, number_literal, list_of, is_list, member_count, coerced};
+ghost use Rattle.ivy_check.specs.Expressions.{coerced_beside};
+ghost use Rattle.ivy_check.specs.Expressions.{are_of_one_type, are_numeric, are_booleans, takes_operand, unary_result};
+ghost use Rattle.ivy_check.specs.Expressions.{takes_operands, binary_type, fits_param, member_type, agree};
+ghost use Rattle.ivy_check.specs.Expressions.{has_enough_keys, result_of_one, result_of_two, is_member};
 
-use crate::functions::{Function, Want};
-use crate::own::{Own, are_same, has_numeric, has_plain, is_of};
+use crate::functions::{Function, ParamType};
+use crate::inferred::{Inferred, has_numeric_type, has_plain_type, has_type, have_one_type};
 use crate::types::IvyType;
 use ivy_syntax::Op;
 
-impl Want {
-    /// The type of the members of the list that is wanted, if one is.
-    pub(crate) fn members(self) -> Option<IvyType>
-        ensures { result ≡ wanted_members self }
+impl ParamType {
+    /// The type of the members of a list, where the parameter is one.
+    pub(crate) fn member_type(self) -> Option<IvyType>
+        ensures { result ≡ member_type self }
     {
         match self {
-            Want::ListOf(each) => Some(each),
+            ParamType::ListOf(each) => Some(each),
             _ => None,
         }
     }
 }
 
-impl Own {
+impl Inferred {
     /// What is no number and no list, and has this type.
-    pub(crate) fn plainly(type_in: Option<IvyType>) -> Own
-        ensures { result ≡ plainly type_in }
+    pub(crate) fn of_type(ivy_type: Option<IvyType>) -> Inferred
+        ensures { result ≡ of_type ivy_type }
     {
-        Own {
+        Inferred {
             is_literal: false,
             members: None,
-            type_in,
+            ivy_type,
         }
     }
 
     /// A number, which is an Integer by itself.
-    pub(crate) fn number() -> Own
-        ensures { result ≡ number_own }
+    pub(crate) fn number() -> Inferred
+        ensures { result ≡ number_literal }
     {
-        Own {
+        Inferred {
             is_literal: true,
             members: None,
-            type_in: Some(IvyType::Integer),
+            ivy_type: Some(IvyType::Integer),
         }
     }
 
     /// A list of so many members.
-    pub(crate) fn list(members: usize) -> Own
-        ensures { result ≡ list_own members }
+    pub(crate) fn list(members: usize) -> Inferred
+        ensures { result ≡ list_of members }
     {
-        Own {
+        Inferred {
             is_literal: false,
             members: Some(members),
-            type_in: None,
+            ivy_type: None,
         }
     }
 
@@ -64,113 +66,113 @@ impl Own {
     }
 
     // How many members it has.
-    fn count(self) -> usize
-        ensures { result ≡ count self }
+    fn member_count(self) -> usize
+        ensures { result ≡ member_count self }
     {
         self.members.unwrap_or(0)
     }
 
     /// The type that it has beside another operand: a number takes the other's type, where that is numeric and no
     /// number too.
-    pub(crate) fn beside(self, other: Own) -> Option<IvyType>
-        ensures { result ≡ beside other self }
+    pub(crate) fn coerced_beside(self, other: Inferred) -> Option<IvyType>
+        ensures { result ≡ coerced_beside other self }
     {
-        if self.is_literal && !other.is_literal && has_numeric(other.type_in) {
-            other.type_in
+        if self.is_literal && !other.is_literal && has_numeric_type(other.ivy_type) {
+            other.ivy_type
         } else {
-            self.type_in
+            self.ivy_type
         }
     }
 
-    /// The type that it has in a place that asks for this one: a number takes it, where it is numeric.
-    pub(crate) fn asked(self, wanted: IvyType) -> Option<IvyType>
-        ensures { result ≡ asked wanted self }
+    /// The type that it has where this one is expected: a number takes it, where it is numeric.
+    pub(crate) fn coerced(self, expected: IvyType) -> Option<IvyType>
+        ensures { result ≡ coerced expected self }
     {
-        if self.is_literal && wanted.is_numeric() {
-            Some(wanted)
+        if self.is_literal && expected.is_numeric() {
+            Some(expected)
         } else {
-            self.type_in
+            self.ivy_type
         }
     }
 
-    /// A member of a list is no list, and of this type, if one is wanted.
+    /// A member of a list is no list, and of this type, if one is expected.
     pub(crate) fn is_member(self, each: Option<IvyType>) -> bool
         ensures { result ≡ is_member each self }
     {
         match each {
-            Some(wanted) => is_of(wanted, self.type_in),
+            Some(expected) => has_type(expected, self.ivy_type),
             None => !self.is_list(),
         }
     }
 
-    /// It is what is wanted as an argument.
-    pub(crate) fn is_wanted(self, want: Want) -> bool
-        ensures { result ≡ is_wanted want self }
+    /// It is an argument for such a parameter.
+    pub(crate) fn fits_param(self, param: ParamType) -> bool
+        ensures { result ≡ fits_param param self }
     {
-        match want {
-            Want::Exactly(wanted) => is_of(wanted, self.asked(wanted)),
-            Want::Numeric => has_numeric(self.type_in),
-            Want::Plain => has_plain(self.type_in),
-            Want::Any => !self.is_list(),
-            Want::ListOf(_) => self.is_list(),
+        match param {
+            ParamType::Exactly(expected) => has_type(expected, self.coerced(expected)),
+            ParamType::Numeric => has_numeric_type(self.ivy_type),
+            ParamType::Plain => has_plain_type(self.ivy_type),
+            ParamType::Any => !self.is_list(),
+            ParamType::ListOf(_) => self.is_list(),
         }
     }
 }
 
-fn are_alike(left: Own, right: Own) -> bool
-    ensures { result ≡ are_alike left right }
+fn are_of_one_type(left: Inferred, right: Inferred) -> bool
+    ensures { result ≡ are_of_one_type left right }
 {
-    are_same(left.beside(right), right.beside(left))
+    have_one_type(left.coerced_beside(right), right.coerced_beside(left))
 }
 
-fn are_numbers(left: Own, right: Own) -> bool
-    ensures { result ≡ are_numbers left right }
+fn are_numeric(left: Inferred, right: Inferred) -> bool
+    ensures { result ≡ are_numeric left right }
 {
-    are_alike(left, right) && has_numeric(left.beside(right))
+    are_of_one_type(left, right) && has_numeric_type(left.coerced_beside(right))
 }
 
-fn are_booleans(left: Own, right: Own) -> bool
+fn are_booleans(left: Inferred, right: Inferred) -> bool
     ensures { result ≡ are_booleans left right }
 {
-    is_of(IvyType::Boolean, left.type_in) && is_of(IvyType::Boolean, right.type_in)
+    has_type(IvyType::Boolean, left.ivy_type) && has_type(IvyType::Boolean, right.ivy_type)
 }
 
 /// `!` takes a Boolean, and `-` what is numeric.
-pub(crate) fn takes_operand(op: Op, own: Own) -> bool
-    ensures { result ≡ takes_operand op own }
+pub(crate) fn takes_operand(op: Op, inferred: Inferred) -> bool
+    ensures { result ≡ takes_operand op inferred }
 {
     match op {
-        Op::Not => is_of(IvyType::Boolean, own.type_in),
-        _ => has_numeric(own.type_in),
+        Op::Not => has_type(IvyType::Boolean, inferred.ivy_type),
+        _ => has_numeric_type(inferred.ivy_type),
     }
 }
 
 /// What an operation of one operand is.
-pub(crate) fn unary_own(op: Op, own: Own) -> Own
-    ensures { result ≡ unary_own op own }
+pub(crate) fn unary_result(op: Op, inferred: Inferred) -> Inferred
+    ensures { result ≡ unary_result op inferred }
 {
     match op {
-        Op::Not => Own::plainly(Some(IvyType::Boolean)),
-        _ => Own {
+        Op::Not => Inferred::of_type(Some(IvyType::Boolean)),
+        _ => Inferred {
             members: None,
-            ..own
+            ..inferred
         },
     }
 }
 
 /// An operation takes these operands.
-pub(crate) fn takes_operands(op: Op, left: Own, right: Own) -> bool
+pub(crate) fn takes_operands(op: Op, left: Inferred, right: Inferred) -> bool
     ensures { result ≡ takes_operands op left right }
 {
     match op {
         Op::Or | Op::And => are_booleans(left, right),
-        Op::Equal | Op::NotEqual => are_alike(left, right),
-        _ => are_numbers(left, right),
+        Op::Equal | Op::NotEqual => are_of_one_type(left, right),
+        _ => are_numeric(left, right),
     }
 }
 
 /// The type of an operation of these operands.
-pub(crate) fn binary_type(op: Op, left: Own, right: Own) -> Option<IvyType>
+pub(crate) fn binary_type(op: Op, left: Inferred, right: Inferred) -> Option<IvyType>
     ensures { result ≡ binary_type op left right }
 {
     match op {
@@ -182,36 +184,36 @@ pub(crate) fn binary_type(op: Op, left: Own, right: Own) -> Option<IvyType>
         | Op::LessEqual
         | Op::Greater
         | Op::GreaterEqual => Some(IvyType::Boolean),
-        _ => left.beside(right),
+        _ => left.coerced_beside(right),
     }
 }
 
 /// The arguments of `min` and of `max` have one type.
-pub(crate) fn agree(function: Function, first: Own, second: Own) -> bool
+pub(crate) fn agree(function: Function, first: Inferred, second: Inferred) -> bool
     ensures { result ≡ agree function first second }
 {
     match function {
-        Function::Min | Function::Max => are_alike(first, second),
+        Function::Min | Function::Max => are_of_one_type(first, second),
         _ => true,
     }
 }
 
 /// Of keys and signatures there are no more signatures.
-pub(crate) fn are_enough(function: Function, keys: Own, sigs: Own) -> bool
-    ensures { result ≡ are_enough function keys sigs }
+pub(crate) fn has_enough_keys(function: Function, keys: Inferred, sigs: Inferred) -> bool
+    ensures { result ≡ has_enough_keys function keys sigs }
 {
     match function {
-        Function::CheckTxMultiSig => keys.count() >= sigs.count(),
+        Function::CheckTxMultiSig => keys.member_count() >= sigs.member_count(),
         _ => true,
     }
 }
 
 /// The type of what a function gives for one argument.
-pub(crate) fn given_one(function: Function, own: Own) -> Option<IvyType>
-    ensures { result ≡ given_one function own }
+pub(crate) fn result_of_one(function: Function, inferred: Inferred) -> Option<IvyType>
+    ensures { result ≡ result_of_one function inferred }
 {
     match function {
-        Function::Abs => own.type_in,
+        Function::Abs => inferred.ivy_type,
         Function::Size => Some(IvyType::Integer),
         Function::BytesOf => Some(IvyType::String),
         Function::Sha256 => Some(IvyType::Hash),
@@ -221,11 +223,15 @@ pub(crate) fn given_one(function: Function, own: Own) -> Option<IvyType>
 }
 
 /// The type of what a function gives for two arguments.
-pub(crate) fn given_two(function: Function, first: Own, second: Own) -> Option<IvyType>
-    ensures { result ≡ given_two function first second }
+pub(crate) fn result_of_two(
+    function: Function,
+    first: Inferred,
+    second: Inferred,
+) -> Option<IvyType>
+    ensures { result ≡ result_of_two function first second }
 {
     match function {
-        Function::Min | Function::Max => first.beside(second),
+        Function::Min | Function::Max => first.coerced_beside(second),
         Function::Concat | Function::ConcatPush => Some(IvyType::String),
         Function::CheckTxSig | Function::CheckTxMultiSig => Some(IvyType::Boolean),
         _ => None,

@@ -1,3 +1,4 @@
+//! What names mean where an expression stands.
 ghost use Rattle.std.specs.Prelude.{◌≡◌, option_map};
 ghost use Rattle.std.specs.Option.{option_copied};
 ghost use Rattle.ivy_check.specs.Scope.{is_name, is_among, kind_word, is_parameter, is_required, parameter_type};
@@ -9,7 +10,7 @@ use ivy_syntax::{ClauseTree, Contract, Group, Req, Word};
 
 /// Where an expression stands: in a clause of a contract.
 #[derive(Clone, Copy)]
-pub(crate) struct Within<'a> {
+pub(crate) struct Scope<'a> {
     pub(crate) contract: &'a Contract,
     pub(crate) clause: &'a ClauseTree,
 }
@@ -64,7 +65,7 @@ pub(crate) fn is_required(name: &[u8], reqs: &[Req]) -> bool
     reqs.iter().any(|req| is_name(name, &req.name))
 }
 
-impl Within<'_> {
+impl Scope<'_> {
     /// The name is a value of the clause: the locked value, or one that is required.
     pub(crate) fn is_value(self, name: &[u8]) -> bool
         ensures { result ≡ is_value (scope_of self.entry) name.now }

@@ -1,16 +1,17 @@
+//! Statements, the values that they dispose of, and the sides of requirements.
 ghost use Rattle.std.specs.Prelude.{◌≡◌, [], take};
 ghost use Rattle.std.specs.List.{flat_map};
 ghost use Rattle.ivy_check.specs.Tests.{first_of, walked};
-ghost use Rattle.ivy_check.specs.Expressions.{typed};
+ghost use Rattle.ivy_check.specs.Expressions.{typing};
 ghost use Rattle.ivy_check.specs.Statements.{disposes, is_disposed, verify_tests, program_tests, lock_tests};
 ghost use Rattle.ivy_check.specs.Statements.{unlock_tests, statement_tests, left, left_tests, side_tests, sides_tests};
-ghost use Rattle.ivy_check.specs.Walk.{scope_of, told};
+ghost use Rattle.ivy_check.specs.Walk.{scope_of, reported};
 
-use crate::expression::whole;
+use crate::expression::whole_expression;
 use crate::fault::{Fault, Kind, refuse_if};
-use crate::functions::Want;
-use crate::own::is_of;
-use crate::scope::{Within, is_name, is_required};
+use crate::functions::ParamType;
+use crate::inferred::has_type;
+use crate::scope::{Scope, is_name, is_required};
 use crate::types::IvyType;
 use ivy_syntax::{Expr, Req, Stmt, Word};
 
@@ -30,35 +31,35 @@ fn is_disposed(name: &[u8], stmts: &[Stmt]) -> bool
     stmts.iter().any(|stmt| disposes(name, stmt))
 }
 
-#[tactic(auto, using(crate::proofs::TypedLemmas::walking))]
-fn verify(scope: Within, e: &Expr) -> Result<(), Fault>
-    ensures { told result ≡ first_of (verify_tests (typed (scope_of scope.entry) e.now)) }
+#[tactic(auto, using(crate::proofs::TypingLemmas::walking))]
+fn verify(scope: Scope, e: &Expr) -> Result<(), Fault>
+    ensures { reported result ≡ first_of (verify_tests (typing (scope_of scope.entry) e.now)) }
 {
-    let own = whole(scope, e)?;
+    let inferred = whole_expression(scope, e)?;
     refuse_if(
-        !is_of(IvyType::Boolean, own.type_in),
+        !has_type(IvyType::Boolean, inferred.ivy_type),
         Kind::NotBoolean,
         e.from,
     )
 }
 
-#[tactic(auto, using(crate::proofs::TypedLemmas::walking))]
-fn program(scope: Within, e: &Expr) -> Result<(), Fault>
-    ensures { told result ≡ first_of (program_tests (typed (scope_of scope.entry) e.now)) }
+#[tactic(auto, using(crate::proofs::TypingLemmas::walking))]
+fn program(scope: Scope, e: &Expr) -> Result<(), Fault>
+    ensures { reported result ≡ first_of (program_tests (typing (scope_of scope.entry) e.now)) }
 {
-    let own = whole(scope, e)?;
+    let inferred = whole_expression(scope, e)?;
     refuse_if(
-        !is_of(IvyType::Program, own.type_in),
+        !has_type(IvyType::Program, inferred.ivy_type),
         Kind::NotProgram,
         e.from,
     )
 }
 
-// A lock behind these statements.
-#[tactic(auto, using(crate::proofs::TypedLemmas::walking))]
-fn lock(scope: Within, before: &[Stmt], value: &Word, with: &Expr) -> Result<(), Fault>
-    ensures { told result ≡ first_of (lock_tests (scope_of scope.entry) before.now value.now
-        (typed (scope_of scope.entry) with.now)) }
+// A lock after these statements.
+#[tactic(auto, using(crate::proofs::TypingLemmas::walking))]
+fn lock(scope: Scope, before: &[Stmt], value: &Word, with: &Expr) -> Result<(), Fault>
+    ensures { reported result ≡ first_of (lock_tests (scope_of scope.entry) before.now value.now
+        (typing (scope_of scope.entry) with.now)) }
 {
     let name = value.name.as_slice();
     refuse_if(!scope.is_value(name), Kind::NoValue, value.at)?;
@@ -66,10 +67,10 @@ fn lock(scope: Within, before: &[Stmt], value: &Word, with: &Expr) -> Result<(),
     program(scope, with)
 }
 
-// An unlock behind these statements.
-#[tactic(auto, using(crate::proofs::TypedLemmas::walking))]
-fn unlock(scope: Within, before: &[Stmt], value: &Word) -> Result<(), Fault>
-    ensures { told result ≡ first_of (unlock_tests (scope_of scope.entry) before.now value.now) }
+// An unlock after these statements.
+#[tactic(auto, using(crate::proofs::TypingLemmas::walking))]
+fn unlock(scope: Scope, before: &[Stmt], value: &Word) -> Result<(), Fault>
+    ensures { reported result ≡ first_of (unlock_tests (scope_of scope.entry) before.now value.now) }
 {
     let name = value.name.as_slice();
     refuse_if(!scope.is_value(name), Kind::NoValue, value.at)?;
@@ -78,9 +79,9 @@ fn unlock(scope: Within, before: &[Stmt], value: &Word) -> Result<(), Fault>
     refuse_if(is_disposed(name, before), Kind::DisposedTwice, value.at)
 }
 
-// A statement behind these.
-fn statement(scope: Within, before: &[Stmt], stmt: &Stmt) -> Result<(), Fault>
-    ensures { told result ≡ first_of (statement_tests (scope_of scope.entry) before.now stmt.now) }
+// A statement after these.
+fn statement(scope: Scope, before: &[Stmt], stmt: &Stmt) -> Result<(), Fault>
+    ensures { reported result ≡ first_of (statement_tests (scope_of scope.entry) before.now stmt.now) }
 {
     match stmt {
         Stmt::Verify { expr, .. } => verify(scope, expr),
@@ -90,8 +91,8 @@ fn statement(scope: Within, before: &[Stmt], stmt: &Stmt) -> Result<(), Fault>
 }
 
 /// The statements of a clause, in order.
-pub(crate) fn statements(scope: Within, stmts: &[Stmt]) -> Result<(), Fault>
-    ensures { told result ≡ first_of (walked (statement_tests (scope_of scope.entry)) [] stmts.now) }
+pub(crate) fn statements(scope: Scope, stmts: &[Stmt]) -> Result<(), Fault>
+    ensures { reported result ≡ first_of (walked (statement_tests (scope_of scope.entry)) [] stmts.now) }
 {
     for (k, stmt) in stmts.iter().enumerate() {
         statement(scope, &stmts[..k], stmt)?;
@@ -101,7 +102,7 @@ pub(crate) fn statements(scope: Within, stmts: &[Stmt]) -> Result<(), Fault>
 
 // A value that is left by these statements.
 fn disposed(stmts: &[Stmt], value: &Word) -> Result<(), Fault>
-    ensures { told result ≡ first_of (left stmts.now value.now) }
+    ensures { reported result ≡ first_of (left stmts.now value.now) }
 {
     let is_left = !is_disposed(value.name.as_slice(), stmts);
     refuse_if(is_left, Kind::ValueLeft, value.at)
@@ -109,7 +110,7 @@ fn disposed(stmts: &[Stmt], value: &Word) -> Result<(), Fault>
 
 // The required values that are left.
 fn required_disposed(stmts: &[Stmt], reqs: &[Req]) -> Result<(), Fault>
-    ensures { told result ≡ first_of (flat_map (λ req. left stmts.now req.name) reqs.now) }
+    ensures { reported result ≡ first_of (flat_map (λ req. left stmts.now req.name) reqs.now) }
 {
     for req in reqs {
         disposed(stmts, &req.name)?;
@@ -118,9 +119,9 @@ fn required_disposed(stmts: &[Stmt], reqs: &[Req]) -> Result<(), Fault>
 }
 
 /// The values that are left at the end of a clause.
-#[tactic(auto, using(crate::proofs::TypedLemmas::walking))]
-pub(crate) fn all_disposed(scope: Within) -> Result<(), Fault>
-    ensures { told result ≡ first_of (left_tests (scope_of scope.entry)) }
+#[tactic(auto, using(crate::proofs::TypingLemmas::walking))]
+pub(crate) fn all_disposed(scope: Scope) -> Result<(), Fault>
+    ensures { reported result ≡ first_of (left_tests (scope_of scope.entry)) }
 {
     let stmts = scope.clause.stmts.as_slice();
     disposed(stmts, &scope.contract.value)?;
@@ -128,22 +129,22 @@ pub(crate) fn all_disposed(scope: Within) -> Result<(), Fault>
 }
 
 // A side of a requirement, which asks for this type.
-#[tactic(auto, using(crate::proofs::TypedLemmas::walking))]
-fn side(scope: Within, wanted: IvyType, e: &Expr) -> Result<(), Fault>
-    ensures { told result ≡ first_of (side_tests wanted (typed (scope_of scope.entry) e.now)) }
+#[tactic(auto, using(crate::proofs::TypingLemmas::walking))]
+fn side(scope: Scope, expected: IvyType, e: &Expr) -> Result<(), Fault>
+    ensures { reported result ≡ first_of (side_tests expected (typing (scope_of scope.entry) e.now)) }
 {
-    let own = whole(scope, e)?;
+    let inferred = whole_expression(scope, e)?;
     refuse_if(
-        !own.is_wanted(Want::Exactly(wanted)),
+        !inferred.fits_param(ParamType::Exactly(expected)),
         Kind::WrongOperand,
         e.from,
     )
 }
 
 /// The sides of a requirement.
-#[tactic(auto, using(crate::proofs::TypedLemmas::walking))]
-pub(crate) fn sides(scope: Within, req: &Req) -> Result<(), Fault>
-    ensures { told result ≡ first_of (sides_tests (scope_of scope.entry) req.now) }
+#[tactic(auto, using(crate::proofs::TypingLemmas::walking))]
+pub(crate) fn sides(scope: Scope, req: &Req) -> Result<(), Fault>
+    ensures { reported result ≡ first_of (sides_tests (scope_of scope.entry) req.now) }
 {
     side(scope, IvyType::Amount, &req.amount)?;
     side(scope, IvyType::Asset, &req.asset)

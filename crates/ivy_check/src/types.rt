@@ -1,3 +1,4 @@
+//! The types of Ivy.
 ghost use Rattle.std.specs.Prelude.{◌≡◌};
 ghost use Rattle.ivy_check.specs.Types.{type_named, same_type, is_numeric, is_plain};
 
@@ -47,7 +48,7 @@ impl IvyType {
     }
 
     /// This is that type.
-    pub(crate) fn is(self, other: IvyType) -> bool
+    pub(crate) fn same_type(self, other: IvyType) -> bool
         ensures { result ≡ same_type self other }
     {
         self as u8 == other as u8

@@ -1,8 +1,9 @@
+//! Uses of parameters.
 ghost use Rattle.std.specs.Prelude.{◌≡◌, map};
 ghost use Rattle.std.specs.List.{list_any, flat_map};
 ghost use Rattle.ivy_check.specs.Tests.{first_of};
 ghost use Rattle.ivy_check.specs.Uses.{uses, statement_uses, req_uses, clause_uses, word_unused, unused_tests};
-ghost use Rattle.ivy_check.specs.Walk.{told};
+ghost use Rattle.ivy_check.specs.Walk.{reported};
 
 use crate::fault::{Fault, Kind, refuse_if};
 use ivy_syntax::{ClauseTree, Expr, Form, Group, Req, Stmt, Word};
@@ -79,7 +80,7 @@ fn clauses_use(name: &[u8], clauses: &[ClauseTree]) -> bool
 
 // The parameter of this name is used by one of these clauses.
 fn used(clauses: &[ClauseTree], word: &Word) -> Result<(), Fault>
-    ensures { told result ≡ first_of (word_unused clauses.now word.now) }
+    ensures { reported result ≡ first_of (word_unused clauses.now word.now) }
 {
     let is_used = clauses_use(word.name.as_slice(), clauses);
     refuse_if(!is_used, Kind::Unused, word.at)
@@ -87,7 +88,7 @@ fn used(clauses: &[ClauseTree], word: &Word) -> Result<(), Fault>
 
 // Each parameter of a group is.
 fn group_used(clauses: &[ClauseTree], names: &[Word]) -> Result<(), Fault>
-    ensures { told result ≡ first_of (flat_map (word_unused clauses.now) names.now) }
+    ensures { reported result ≡ first_of (flat_map (word_unused clauses.now) names.now) }
 {
     for word in names {
         used(clauses, word)?;
@@ -97,7 +98,7 @@ fn group_used(clauses: &[ClauseTree], names: &[Word]) -> Result<(), Fault>
 
 /// Each parameter of these groups is used by one of these clauses.
 pub(crate) fn all_used(clauses: &[ClauseTree], params: &[Group]) -> Result<(), Fault>
-    ensures { told result ≡ first_of (unused_tests clauses.now params.now) }
+    ensures { reported result ≡ first_of (unused_tests clauses.now params.now) }
 {
     for group in params {
         group_used(clauses, group.names.as_slice())?;

@@ -1,7 +1,8 @@
+//! The verdict on a source.
 ghost use Rattle.std.specs.Prelude.{◌≡◌, ◌≢◌, ◌↔◌, ℕ, Some, None, Err, IfOk};
 ghost use Rattle.wire.specs.Tables.{First};
 ghost use Rattle.ivy_syntax.specs.Texts.{IsOfSomeText};
-ghost use Rattle.ivy_check.specs.TypeFault.{lines_of};
+ghost use Rattle.ivy_check.specs.TypeFault.{causes_of};
 ghost use Rattle.ivy_check.specs.declared.fault.TypeFault.TheVariants.{At, NoMemory};
 
 use crate::contract::contracts;
@@ -38,21 +39,21 @@ impl Checked {
         // Some text is it.
         ensures text { IsOfSomeText self.now }
         // No type fault stands in it.
-        ensures none { First (lines_of self.now) None }
+        ensures none { First (causes_of self.now) None }
     {
         &self.source
     }
 }
 
 /// The source as it is, if no type fault stands in it. A source that is refused is dropped. Nothing is allocated, so
-/// that memory is never wanted.
+/// memory does not run out.
 pub fn check(source: Source) -> Result<Checked, TypeFault>
     // Some text is the source.
     requires text { IsOfSomeText source }
     // What is checked is the source, and no type fault stands in it.
-    ensures ok { IfOk result (λ checked. (checked ≡ source) × First (lines_of source) None) }
+    ensures ok { IfOk result (λ checked. (checked ≡ source) × First (causes_of source) None) }
     // A refusal is the first type fault.
-    ensures fault { (at kind : ℕ) → (result ≡ Err (At at kind)) ↔ First (lines_of source) (Some (at, kind)) }
+    ensures fault { (at kind : ℕ) → (result ≡ Err (At at kind)) ↔ First (causes_of source) (Some (at, kind)) }
     // There is no other refusal.
     ensures only { result ≢ Err NoMemory }
 {

@@ -18,7 +18,8 @@ use Rattle.ivy_syntax.specs.declared.lexeme.Symbol.TheVariants as symbol
 use Rattle.ivy_syntax.specs.Token.{Token, Operation, Name, Sign, End, Bad}
 use Rattle.ivy_syntax.specs.Token as token
 use Rattle.ivy_syntax.specs.Tokens.{Placed}
-use Rattle.ivy_syntax.specs.Grammar.{Level, Reads, alone, joined, compared, prefixed, one_token, empty_call, call}
+use Rattle.ivy_syntax.specs.declared.level.Level.{Level}
+use Rattle.ivy_syntax.specs.Grammar.{Reads, alone, joined, compared, prefixed, one_token, empty_call, call}
 use Rattle.ivy_syntax.specs.Grammar.{members, parentheses, Members, member, more_members, Names, a_name_alone}
 use Rattle.ivy_syntax.specs.Grammar.{more_names, IsGroup, group, Groups, a_group, more_groups, Params, no_params}
 use Rattle.ivy_syntax.specs.Grammar.{params}

@@ -1,5 +1,5 @@
 -- The longest token and the comment at the front of a text.
-use Rattle.std.proofs.Common.{◌≡◌, ◌≤◌, ◌<◌, ◌+◌, ◌&&◌, ◌==◌, ℕ, suc, Bool, true, false}
+use Rattle.std.proofs.Common.{◌≡◌, ◌≤◌, ◌<◌, ◌+◌, ◌&&◌, ◌==◌, ℕ, suc, true, false}
 use Rattle.std.proofs.Common.{List, [], ◌∷◌, ◌++◌, inl, inr, length, take, drop, slice_index, refl, ap, sym, ◌∙◌}
 use Rattle.std.proofs.Common.{subst, arith, Option, Some, None}
 use Rattle.std.specs.Prelude.{codes}
@@ -79,9 +79,6 @@ pub record FirstClose (at place : ℕ) (text : List ℕ) : Type 0 where
   pub after : List ℕ
   pub closes : Closes text before after
   pub here : place ≡ at + length before
-
-close_test : ℕ → List ℕ → Bool
-close_test b rest = b == 42 && slice_index rest 0 == 47
 
 closes_now : (b : ℕ) (rest : List ℕ) → (b == 42 && slice_index rest 0 == 47) ≡ true
     → (after : List ℕ) × (b ∷ rest ≡ 42 ∷ 47 ∷ after)
@@ -183,7 +180,7 @@ line_comment rest =
       within = omega arith;
     }
 
--- the two bytes of a mark behind so many
+-- the two bytes of a mark after so many
 behind_close : (before after : List ℕ) → take (2 + length before) (before ++ (42 ∷ 47 ∷ after)) ≡ before ++ codes "*/"
 behind_close before after =
     let group : before ++ (42 ∷ 47 ∷ after) ≡ (before ++ codes "*/") ++ after

@@ -9,7 +9,9 @@ use Rattle.ivy_syntax.specs.declared.lexeme.Kind.{Kind}
 use Rattle.ivy_syntax.specs.declared.lexeme.Kind.TheVariants as kind
 use Rattle.ivy_syntax.specs.declared.lexeme.Lexeme.{Lexeme}
 use Rattle.ivy_syntax.specs.declared.limits.Counts.{Counts}
-use Rattle.ivy_syntax.specs.Lexeme.{token_of, kind_of, placed, bytes_of}
+use Rattle.ivy_syntax.specs.Token.{kind_of}
+use Rattle.grammars.specs.Places as places
+use Rattle.ivy_syntax.specs.Lexeme.{token_of, tokens}
 use Rattle.ivy_syntax.specs.Limits.{is_contract, is_clause, is_requires, is_of, is_statement, is_name, is_operator}
 use Rattle.ivy_syntax.specs.Limits.{is_comma}
 use Rattle.ivy_syntax.specs.Limits.{opens, closes, leads_param, leads_expression, begins_section, begins_part}
@@ -259,8 +261,6 @@ kind_is kind.Quoted bytes = refl
 kind_is kind.End bytes = refl
 kind_is kind.Bad bytes = refl
 
-pub kinds_placed : (text : List ℕ) (lexemes : List Lexeme)
-    → map (λ p. kind_of p.0) (map (placed text) lexemes) ≡ kinds lexemes
-kinds_placed text [] = refl
-kinds_placed text (l ∷ lexemes) =
-    (λ i. kind_is l.kind (bytes_of text l) i ∷ kinds_placed text lexemes i)
+pub kinds_placed : (lexemes : List Lexeme) → map kind_of (places.kinds (tokens lexemes)) ≡ kinds lexemes
+kinds_placed [] = refl
+kinds_placed (l ∷ lexemes) = (λ i. kind_is l.kind l.bytes.now i ∷ kinds_placed lexemes i)

@@ -10,7 +10,7 @@ use Rattle.ivy_syntax.specs.declared.lexeme.Kind.TheVariants as kind
 use Rattle.ivy_syntax.specs.declared.lexeme.Symbol.TheVariants as symbol
 use Rattle.ivy_syntax.specs.Token.{Token, Sign}
 use Rattle.ivy_syntax.specs.Tokens.{Placed}
-use Rattle.ivy_syntax.specs.Lexeme.{kind_of}
+use Rattle.ivy_syntax.specs.Token.{kind_of}
 use Rattle.ivy_syntax.specs.Limits.{passes, passes_at, FirstPassed}
 use Rattle.ivy_syntax.specs.Texts.{AreFew}
 
@@ -39,7 +39,7 @@ kinds_front front rest =
 pub length_kinds : (ts : List Placed) → length (kinds_of ts) ≡ length ts
 length_kinds ts = length-map (kinds ts) kind_of ∙ length-map ts (λ (p : Placed). p.0)
 
--- a token passes the same limit, whatever stands behind it
+-- a token passes the same limit, whatever stands after it
 pub passes_there : (front : List Placed) (t : Placed) (behind : List Placed)
     → passes_at (kinds_of (front ++ (t ∷ behind))) (length front) ≡ passes (reverse (kinds_of front)) (kind_of t.0)
 passes_there front t behind =
@@ -95,7 +95,7 @@ first_passed ks = by (search ks (length ks))
 abbrev closing : Kind
 closing = kind.Sign symbol.CloseBrace
 
--- behind a closing brace the end passes none
+-- after a closing brace the end passes none
 pub none_at_end : (before : List Token)
     → passes (reverse (map kind_of (before ++ (Sign symbol.CloseBrace ∷ [])))) kind.End ≡ None
 none_at_end before =

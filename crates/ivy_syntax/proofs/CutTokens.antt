@@ -1,26 +1,26 @@
--- The tokens of a text, cut behind the first that passes a counted limit, and how reading them goes on in the text.
-use Rattle.std.specs.Prelude.{◌≡◌, ◌⊎◌, ◌<◌, ◌+◌, ℕ, Bool, true, false, ◌&&◌, ◌==◌, nat_lt, cond}
-use Rattle.std.specs.Prelude.{List, [], ◌∷◌, ◌++◌, length, map, take, slice_index, Option, Some, None}
+-- The tokens of a text, cut after the first that passes a counted limit, and how reading them goes on in the text.
+use Rattle.std.specs.Prelude.{◌≡◌, ◌⊎◌, ◌<◌, ◌+◌, ℕ, Bool, true, false, nat_lt, cond}
+use Rattle.std.specs.Prelude.{List, [], ◌∷◌, ◌++◌, length, take, slice_index, Option, Some, None}
 use Rattle.std.specs.Prelude.{Result, Ok, Err, refl}
+use Rattle.std.proofs.Common.{get_or}
 use Rattle.std.specs.Result.{is_ok}
 use Rattle.std.proofs.Common.{sym, ap, ◌∙◌, subst, true≢false, arith, inl, inr}
-use Rattle.std.proofs.lemmas.Bool.{ltb-true, lt-ltb, le-ltb, eq-eqb, ne_eqb, cases_lt, eqb-true, eqb-false}
-use Rattle.std.proofs.lemmas.List.{take_at, take-map, map-append, length-append, length-map, get_or_append_left}
+use Rattle.std.proofs.lemmas.Bool.{ltb-true, lt-ltb, le-ltb, cases_lt}
+use Rattle.std.proofs.lemmas.List.{take_at, take-map, map-append, length-append, length-map, get_or_append_left, get_or-map}
 use mathlib.Core.List.{append_assoc}
 use Rattle.grammars.specs.Places.{kinds}
 use Rattle.ivy_syntax.specs.declared.fault.ParseFault.{ParseFault}
 use Rattle.ivy_syntax.specs.declared.fault.ParseFault.TheVariants as faults
-use Rattle.ivy_syntax.specs.declared.lexeme.Kind.TheVariants as kind
 use Rattle.ivy_syntax.specs.declared.lexeme.Lexeme.{Lexeme}
 use Rattle.ivy_syntax.specs.declared.tree.Source.{Source}
 use Rattle.ivy_syntax.specs.Token.{End, Bad}
 use Rattle.ivy_syntax.specs.Tokens.{Placed, AreTokens}
-use Rattle.ivy_syntax.specs.Lexeme.{placed}
-use Rattle.ivy_syntax.specs.Cutting.{point}
+use Rattle.ivy_syntax.specs.Lexeme.{placed, tokens}
 use Rattle.ivy_syntax.specs.Grammar.{File}
 use Rattle.ivy_syntax.specs.Limits.{FirstPassed}
 use Rattle.ivy_syntax.specs.Texts.{BeginsSource, BeginsWithin, ReadsAs, SyntaxAt, TooManyAt, AnswersText}
-use Rattle.ivy_syntax.specs.Answering.{places, cut_behind, unpassed, limit_there}
+use Rattle.ivy_syntax.specs.Agreement.{nests}
+use Rattle.ivy_syntax.specs.Answering.{cut_after, unpassed}
 use Rattle.ivy_syntax.proofs.Verdict.{Shaped, Reached, upto, fine_before}
 use Rattle.ivy_syntax.proofs.CountedLimits.{kinds_of, NoneBefore}
 use Rattle.ivy_syntax.proofs.Faults.{places_of, CutAt, cut_at, place_there, source_there, syntax_there, deep_there}
@@ -39,43 +39,52 @@ pub data CutBehind (ts : List Placed) (passed : Option (ℕ × ℕ)) (cs : List 
       → cs ≡ front ++ ((Bad, first.1) ∷ [])
       → CutBehind ts passed cs
 
-pub places_are : (text : List ℕ) (lexemes : List Lexeme) → places lexemes ≡ places_of (map (placed text) lexemes)
-places_are text [] = refl
-places_are text (l ∷ lexemes) = ap (λ ps. l.from ∷ ps) (places_are text lexemes)
+front_and_bad : (ts : List Placed) (at : ℕ) (c : CutAt ts at)
+    → take at ts ++ ((Bad, slice_index (places_of ts) at) ∷ []) ≡ c.front ++ ((Bad, c.token.1) ∷ [])
+front_and_bad ts at c =
+    ap (λ f. f ++ ((Bad, slice_index (places_of ts) at) ∷ [])) front
+    ∙ ap (λ (p : ℕ). c.front ++ ((Bad, p) ∷ [])) place
+  where
+    front : take at ts ≡ c.front
+    front = ap (λ (ts : List Placed). take at ts) c.split ∙ take_at c.front (c.token ∷ c.behind) at c.size
 
-module _ (text : List ℕ) (all : List Lexeme) where
-  front_and_bad : (at : ℕ) (c : CutAt (map (placed text) all) at)
-      → map (placed text) (take at all ++ (point kind.Bad (slice_index (places all) at) ∷ []))
-      ≡ c.front ++ ((Bad, c.token.1) ∷ [])
-  front_and_bad at c =
-      map-append (placed text) (take at all) (point kind.Bad (slice_index (places all) at) ∷ [])
-      ∙ ap (λ f. f ++ ((Bad, slice_index (places all) at) ∷ [])) front
-      ∙ ap (λ (p : ℕ). c.front ++ ((Bad, p) ∷ [])) place
-    where
-      front : map (placed text) (take at all) ≡ c.front
-      front = sym (take-map (placed text) at all) ∙ ap (λ (ts : List Placed). take at ts) c.split
-          ∙ take_at c.front (c.token ∷ c.behind) at c.size
+    place : slice_index (places_of ts) at ≡ c.token.1
+    place = ap (λ (ts : List Placed). slice_index (places_of ts) at) c.split
+        ∙ ap (λ (n : ℕ). slice_index (places_of (c.front ++ (c.token ∷ c.behind))) n) (sym c.size)
+        ∙ place_there c.front c.token c.behind
 
-      place : slice_index (places all) at ≡ c.token.1
-      place = ap (λ ps. slice_index ps at) (places_are text all)
-          ∙ ap (λ (ts : List Placed). slice_index (places_of ts) at) c.split
-          ∙ ap (λ (n : ℕ). slice_index (places_of (c.front ++ (c.token ∷ c.behind))) n) (sym c.size)
-          ∙ place_there c.front c.token c.behind
+-- tokens that are cut are such tokens
+pub tokens_cut : (ts : List Placed) (passed : Option (ℕ × ℕ)) → CutBehind ts passed (cut_after ts passed)
+tokens_cut ts None = uncut refl
+tokens_cut ts (Some found) = by (nat_lt (found.0 + 1) (length ts)) refl
+  where
+    by : (b : Bool) → nat_lt (found.0 + 1) (length ts) ≡ b
+        → CutBehind ts (Some found)
+        (cond b (take (found.0 + 1) ts ++ ((Bad, slice_index (places_of ts) (found.0 + 1)) ∷ [])) ts)
+    by true small =
+        let c = cut_at ts (found.0 + 1) (ltb-true (found.0 + 1) (length ts) small) in
+        ended found c.front c.token c.behind refl c.size c.split (front_and_bad ts (found.0 + 1) c)
+    by false large = uncut refl
 
-  -- lexemes that are cut are such tokens
-  pub tokens_cut : (passed : Option (ℕ × ℕ))
-      → CutBehind (map (placed text) all) passed (map (placed text) (cut_behind all passed))
-  tokens_cut None = uncut refl
-  tokens_cut (Some found) = by (nat_lt (found.0 + 1) (length all)) refl
-    where
-      by : (b : Bool) → nat_lt (found.0 + 1) (length all) ≡ b
-          → CutBehind (map (placed text) all) (Some found) (map (placed text)
-          (cond b (take (found.0 + 1) all ++ (point kind.Bad (slice_index (places all) (found.0 + 1)) ∷ [])) all))
-      by true small =
-          let c = cut_at (map (placed text) all) (found.0 + 1)
-          (omega (arith, ltb-true (found.0 + 1) (length all) small, length-map all (placed text))) in
-          ended found c.front c.token c.behind refl c.size c.split (front_and_bad (found.0 + 1) c)
-      by false large = uncut refl
+-- and so are the lexemes that the code cuts
+pub lexemes_cut : (items new : List Lexeme) (last there : Lexeme) (at what : ℕ) → at + 1 < length items
+    → new ≡ take (at + 1) items ++ (last ∷ []) → placed last ≡ (Bad, there.at) → there ≡ get_or items (at + 1) there
+    → tokens new ≡ cut_after (tokens items) (Some (at, what))
+lexemes_cut items new last there at what within is bad here =
+    ap tokens is ∙ map-append placed (take (at + 1) items) (last ∷ [])
+    ∙ ap (λ ts. ts ++ (placed last ∷ [])) (sym (take-map placed (at + 1) items))
+    ∙ ap (λ t. take (at + 1) (tokens items) ++ (t ∷ [])) (bad ∙ ap (λ (p : ℕ). (Bad, p)) place)
+    ∙ sym (ap (λ b. cond b (take (at + 1) (tokens items)
+    ++ ((Bad, slice_index (places_of (tokens items)) (at + 1)) ∷ [])) (tokens items))
+    (lt-ltb (at + 1) (length (tokens items)) inside))
+  where
+    inside : at + 1 < length (tokens items)
+    inside = omega (arith, within, length-map items placed)
+
+    place : there.at ≡ slice_index (places_of (tokens items)) (at + 1)
+    place = ap (λ (l : Lexeme). l.at) here
+        ∙ ap (λ (t : Placed). t.1) (sym (get_or-map placed items (at + 1) there (placed there) within))
+        ∙ sym (get_or-map (λ (t : Placed). t.1) (tokens items) (at + 1) (placed there) 0 inside)
 
 -- those of a text still end where one stops it
 pub shaped_cut : (ts cs : List Placed) (passed : Option (ℕ × ℕ)) → Shaped ts → CutBehind ts passed cs → Shaped cs
@@ -95,7 +104,7 @@ abbrev pub PassedWithin : Option (ℕ × ℕ) → ℕ → Type 0
 PassedWithin None most = ⊥
 PassedWithin (Some found) most = found.0 < most
 
--- What the text has behind the tokens up to which the reading went: the same one, unless a counted limit is passed
+-- What the text has after the tokens up to which the reading went: the same one, unless a counted limit is passed
 -- before it.
 pub record GoesOn {cs rest : List Placed} (ts : List Placed) (passed : Option (ℕ × ℕ)) (r : Reached cs rest)
     : Type 0 where
@@ -191,19 +200,6 @@ unpassed_front front rest (Some found) = elim (cases_lt found.0 (length front)) 
     place within = ap (λ (ps : List ℕ). slice_index ps found.0) (map-append (λ (p : Placed). p.1) front rest)
         ∙ get_or_append_left (places_of front) (places_of rest) 0 found.0 within
 
--- and so does the limit that the first of the rest passes
-limit_front : (front rest : List Placed) (passed : Option (ℕ × ℕ))
-    → limit_there (length (front ++ rest)) (length rest) passed ≡ limit_there (length front) 0 passed
-limit_front front rest None = refl
-limit_front front rest (Some found) =
-    ap (λ b. cond (b && nat_lt found.1 7) found.1 7) (by (found.0 + 0 == length front) refl)
-  where
-    by : (b : Bool) → (found.0 + 0 == length front) ≡ b → (found.0 + length rest == length (front ++ rest)) ≡ b
-    by true is = eq-eqb (found.0 + length rest) (length (front ++ rest))
-        (omega (arith, eqb-true (found.0 + 0) (length front) is, length-append front rest))
-    by false is = ne_eqb (found.0 + length rest) (length (front ++ rest))
-        (λ alike. eqb-false (found.0 + 0) (length front) is (omega (arith, alike, length-append front rest)))
-
 none_passed : (front : List Placed) (passed : Option (ℕ × ℕ)) → unpassed (places_of front) 0 passed ≡ Ok tt
     → PassedWithin passed (length front) → ⊥
 none_passed front None is within = within
@@ -234,12 +230,6 @@ module _ (ts cs rest : List Placed) (passed : Option (ℕ × ℕ)) (r : Reached 
   same_unpassed = ap (λ (l : List Placed). unpassed (places_of l) (length rest) passed) cut_split
       ∙ unpassed_front r.front rest passed ∙ sym (unpassed_front r.front (g.token ∷ g.behind) passed)
       ∙ ap (λ (l : List Placed). unpassed (places_of l) (length (g.token ∷ g.behind)) passed) (sym g.split)
-
-  pub same_limit : limit_there (length cs) (length rest) passed
-      ≡ limit_there (length ts) (length (g.token ∷ g.behind)) passed
-  same_limit = ap (λ (l : List Placed). limit_there (length l) (length rest) passed) cut_split
-      ∙ limit_front r.front rest passed ∙ sym (limit_front r.front (g.token ∷ g.behind) passed)
-      ∙ ap (λ (l : List Placed). limit_there (length l) (length (g.token ∷ g.behind)) passed) (sym g.split)
 
   -- the text goes on as the cut tokens do
   pub same_token : unpassed (places_of cs) (length rest) passed ≡ Ok tt
@@ -296,12 +286,11 @@ module _ (text : List ℕ) (ts : List Placed) (are : AreTokens 0 text ts) (passe
         (syntax_there text ts are (on.token ∷ on.behind) in_text none
         (λ begins. stops (subst BeginsSource same_upto begins)))
 
-    pub cut_deep : BeginsSource (upto r) → (BeginsWithin (upto r) → ⊥)
-        → TooManyAt text (limit_there (length cs) (length rest) passed) r.token.1
+    pub cut_deep : nests r.token.0 ≡ true → BeginsSource (upto r) → (BeginsWithin (upto r) → ⊥)
+        → TooManyAt text 7 r.token.1
     unfolding in_text
-    cut_deep begins beyond =
-        subst (λ n. TooManyAt text n r.token.1) (sym (same_limit ts cs rest passed r on))
-        (subst (TooManyAt text (limit_there (length ts) (length (on.token ∷ on.behind)) passed)) same_place
-        (deep_there text ts are (on.token ∷ on.behind) in_text passed first none
+    cut_deep nesting begins beyond =
+        subst (TooManyAt text 7) same_place
+        (deep_there text ts are (on.token ∷ on.behind) in_text none (ap (λ (t : Placed). nests t.0) alike.0 ∙ nesting)
         (subst BeginsSource (sym same_upto) begins)
-        (λ within. beyond (subst BeginsWithin same_upto within))))
+        (λ within. beyond (subst BeginsWithin same_upto within)))

@@ -1,11 +1,12 @@
 -- What the cuts of a text begin with.
 use Rattle.std.proofs.Common.{◌≡◌, ◌≤◌, ◌<◌, ◌+◌, ◌-◌, ◌&&◌, ◌==◌, ℕ, zero, suc, List, [], ◌∷◌, ◌++◌}
-use Rattle.std.proofs.Common.{inl, inr, length, drop, slice_index, refl, ap, sym, ◌∙◌, arith, Some, None}
+use Rattle.std.proofs.Common.{inl, inr, length, take, drop, slice_index, refl, ap, sym, ◌∙◌, arith, Some, None}
 use Rattle.std.proofs.lemmas.Bool.{cases_Bool, cond-true, cond-false}
 use Rattle.ivy_syntax.specs.declared.lexeme.Kind.{Kind}
-use Rattle.ivy_syntax.specs.declared.lexeme.Kind.TheVariants as kind
 use Rattle.ivy_syntax.specs.declared.lexeme.Front.TheVariants as front
-use Rattle.ivy_syntax.specs.Cutting.{close_from, close_of, front_at, cuts_from, cuts, lexeme, point, given, taken, on}
+use Rattle.ivy_syntax.specs.Token.{End, Bad}
+use Rattle.ivy_syntax.specs.Lexeme.{token_of}
+use Rattle.ivy_syntax.specs.Cutting.{close_from, close_of, front_at, cuts_from, cuts, given, taken, on}
 
 -- ---- where no `*/` follows
 
@@ -34,7 +35,7 @@ pub none_in_block : (text : List ℕ) → close_of (drop 1 text) ≡ None → cl
 none_in_block [] e = refl
 none_in_block (b ∷ rest) e = none_behind 1 rest e
 
--- ---- the front, and what is behind it
+-- ---- the front, and what is after it
 
 cuts_skip : (n at : ℕ) (text : List ℕ) → n ≤ length text → cuts_from n at text ≡ cuts_from 0 (at + n) (drop n text)
 cuts_skip zero at text h = let e : at ≡ at + 0 = omega arith in ap (λ k. cuts_from 0 k text) e
@@ -57,23 +58,23 @@ pub cuts_blank : (at len : ℕ) (text : List ℕ) → front_at text ≡ front.Bl
 unfolding cuts
 cuts_blank at len [] e p h = absurd (omega arith)
 cuts_blank at len (b ∷ rest) e p h =
-    ap (λ f. given f at ++ on f (cuts_from (taken f) (at + 1) rest)) e ∙ after_first len at b rest p h
+    ap (λ f. given f at (b ∷ rest) ++ on f (cuts_from (taken f) (at + 1) rest)) e ∙ after_first len at b rest p h
 
 pub cuts_token : (at len : ℕ) (k : Kind) (text : List ℕ) → front_at text ≡ front.Token k len → 0 < len
-    → len ≤ length text → cuts at text ≡ lexeme k at len ∷ cuts (at + len) (drop len text)
+    → len ≤ length text → cuts at text ≡ (token_of k (take len text), at) ∷ cuts (at + len) (drop len text)
 unfolding cuts
 cuts_token at len k [] e p h = absurd (omega arith)
 cuts_token at len k (b ∷ rest) e p h =
-    ap (λ f. given f at ++ on f (cuts_from (taken f) (at + 1) rest)) e
-    ∙ ap (λ more. lexeme k at len ∷ more) (after_first len at b rest p h)
+    ap (λ f. given f at (b ∷ rest) ++ on f (cuts_from (taken f) (at + 1) rest)) e
+    ∙ ap (λ more. (token_of k (take len (b ∷ rest)), at) ∷ more) (after_first len at b rest p h)
 
 pub cuts_wrong : (at : ℕ) (text : List ℕ) → front_at text ≡ front.Wrong → 0 < length text
-    → cuts at text ≡ point kind.Bad at ∷ []
+    → cuts at text ≡ (Bad, at) ∷ []
 unfolding cuts
 cuts_wrong at [] e p = absurd (omega arith)
-cuts_wrong at (b ∷ rest) e p = ap (λ f. given f at ++ on f (cuts_from (taken f) (at + 1) rest)) e
+cuts_wrong at (b ∷ rest) e p = ap (λ f. given f at (b ∷ rest) ++ on f (cuts_from (taken f) (at + 1) rest)) e
 
-pub cuts_end : (at : ℕ) (text : List ℕ) → length text ≡ 0 → cuts at text ≡ point kind.End at ∷ []
+pub cuts_end : (at : ℕ) (text : List ℕ) → length text ≡ 0 → cuts at text ≡ (End, at) ∷ []
 unfolding cuts
 cuts_end at [] e = refl
 cuts_end at (b ∷ rest) e = absurd (omega arith)

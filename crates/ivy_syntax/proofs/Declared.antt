@@ -21,7 +21,8 @@ use Rattle.ivy_syntax.specs.declared.lexeme.Symbol.TheVariants as symbol
 use Rattle.ivy_syntax.specs.Token.{Token, Name}
 use Rattle.ivy_syntax.specs.Token as token
 use Rattle.ivy_syntax.specs.Tokens.{Placed}
-use Rattle.ivy_syntax.specs.Grammar.{Or, Reads, word, Names, a_name_alone, more_names, IsGroup, group, Groups}
+use Rattle.ivy_syntax.specs.declared.level.Level.TheVariants.{Or}
+use Rattle.ivy_syntax.specs.Grammar.{Reads, word, Names, a_name_alone, more_names, IsGroup, group, Groups}
 use Rattle.ivy_syntax.specs.Grammar.{a_group, more_groups, Params, no_params, params, IsReq, req, ReqList, a_req}
 use Rattle.ivy_syntax.specs.Grammar.{more_reqs}
 use Rattle.ivy_syntax.specs.Grammar.{Requires, no_requires, requires, IsStmt, verify, lock, unlock, Stmts, a_stmt}
@@ -107,7 +108,7 @@ of_groups = gathered_reads is_comma one_item and_item Group_part (λ t. Group_pa
     (λ u w t groups g h is k. subst (λ t. Groups (u ++ (t ∷ w)) (groups ++ (g ∷ []))) (sym (sign_is symbol.Comma t is))
     (more_groups t.1 h (of_group w g k)))
 
--- parameters, with the parenthesis behind them
+-- parameters, with the parenthesis after them
 pub to_params : (u : List Placed) (groups : List Group) (last : ℕ) → Params u groups
     → Params_part (u ++ ((token.Sign symbol.CloseParen, last) ∷ [])) groups
 to_params _ _ last no_params =

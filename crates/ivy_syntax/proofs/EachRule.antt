@@ -11,31 +11,29 @@ use Rattle.grammars.specs.Rules.{Rule}
 use Rattle.ivy_syntax.specs.declared.tree.Expr.{Expr}
 use Rattle.ivy_syntax.specs.declared.lexeme.Keyword.TheVariants as keyword
 use Rattle.ivy_syntax.specs.Tokens.{Placed}
-use Rattle.ivy_syntax.specs.Grammar.{Level, Or, Reads, Members, Names, IsGroup, Groups, IsReq, ReqList, Requires}
+use Rattle.ivy_syntax.specs.declared.level.Level.{Level}
+use Rattle.ivy_syntax.specs.declared.level.Level.TheVariants.{Or}
+use Rattle.ivy_syntax.specs.Grammar.{Reads, IsGroup, IsReq}
 use Rattle.ivy_syntax.specs.Grammar.{IsStmt}
-use Rattle.ivy_syntax.specs.Grammar.{Stmts, IsClause, Clauses, IsContract, Contracts}
+use Rattle.ivy_syntax.specs.Grammar.{IsClause, IsContract}
 use Rattle.ivy_syntax.specs.Descent.{Reader, named, is_word, listed, level_by, unary_at, expr_at, req_by, requires_by}
 use Rattle.ivy_syntax.specs.Descent.{stmt_by}
 use Rattle.ivy_syntax.specs.Descent.{stmts_by, clause_by, clauses_by, contract_by, contracts_by}
 use Rattle.ivy_syntax.specs.Descent as descent
-use Rattle.grammars.specs.Heads.{expect}
 use Rattle.ivy_syntax.proofs.Pieces.{Fine}
 use Rattle.ivy_syntax.proofs.Levels.{Goes_on, Comes, decides_level}
-use Rattle.ivy_syntax.proofs.Operands.{Listed, OrComma, of_listed, of_any_listed, to_listed}
-use Rattle.ivy_syntax.proofs.Unaries.{decides_listed}
 use Rattle.ivy_syntax.proofs.Expressions.{decides_unary, decides_expr_at}
-use Rattle.ivy_syntax.proofs.Parts.{Name_part, Group_part, Req_part, Requires_part, Stmt_part, Stmts_part, stmt_begins}
-use Rattle.ivy_syntax.proofs.Parts.{Clause_part, Clauses_part, Contract_part, Contracts_part, Comma, OrRequires, OrStmt}
-use Rattle.ivy_syntax.proofs.Parts.{OrClause, OrContract, names_rule, group_rule, groups_rule, req_rule, reqs_rule}
-use Rattle.ivy_syntax.proofs.Parts.{requires_rule, stmt_rule, stmts_rule, clause_rule, clauses_rule, contract_rule}
-use Rattle.ivy_syntax.proofs.Parts.{contracts_rule, Params_part, params_rule}
-use Rattle.ivy_syntax.proofs.Declared.{to_names, of_names, to_group, of_group, to_groups, of_groups, to_req, of_req}
+use Rattle.ivy_syntax.proofs.Parts.{Group_part, Req_part, Stmt_part, stmt_begins}
+use Rattle.ivy_syntax.proofs.Parts.{Clause_part, Contract_part}
+use Rattle.ivy_syntax.proofs.Parts.{group_rule, req_rule}
+use Rattle.ivy_syntax.proofs.Parts.{stmt_rule, clause_rule, contract_rule}
+use Rattle.ivy_syntax.proofs.Declared.{to_group, of_group, to_req, of_req}
 use Rattle.ivy_syntax.proofs.Declared.{any_req}
-use Rattle.ivy_syntax.proofs.Declared.{to_reqs, of_reqs, any_reqs, to_requires, of_requires, any_requires, to_stmt}
+use Rattle.ivy_syntax.proofs.Declared.{to_stmt}
 use Rattle.ivy_syntax.proofs.Declared.{of_stmt}
-use Rattle.ivy_syntax.proofs.Declared.{any_stmt, to_stmts, of_stmts, any_stmts, Params_parts, params_parts, to_params}
-use Rattle.ivy_syntax.proofs.Files.{to_clause, of_clause, any_clause, to_clauses, of_clauses, any_clauses, to_contract}
-use Rattle.ivy_syntax.proofs.Files.{of_contract, any_contract, to_contracts, of_contracts, any_contracts}
+use Rattle.ivy_syntax.proofs.Declared.{any_stmt}
+use Rattle.ivy_syntax.proofs.Files.{to_clause, of_clause, any_clause, to_contract}
+use Rattle.ivy_syntax.proofs.Files.{of_contract, any_contract}
 
 -- an expression within some bound
 abbrev O : Part Placed Expr
@@ -53,28 +51,11 @@ decides_rule R P C read depth of any to rule ts = decides_same Fine (R depth) (A
 
 -- ---- parameters
 
-pub decides_names : (ts : List Placed) → Decides Fine Names Names Comma ts (listed (expect named) ts)
-decides_names ts = decides_same Fine Names Names (Listed Name_part) (Listed Name_part) Comma Comma ts (λ t c. c)
-    of_names of_names to_names to_names (listed (expect named) ts) (names_rule.comes ts)
-
 pub decides_group : (ts : List Placed) → Decides Fine IsGroup IsGroup NoMore ts (descent.group ts)
 decides_group ts = decides_same Fine IsGroup IsGroup Group_part Group_part NoMore NoMore ts (λ t c. c) of_group of_group
     to_group to_group (descent.group ts) (group_rule.comes ts)
 
-pub decides_groups : (ts : List Placed) → Decides Fine Groups Groups Comma ts (listed descent.group ts)
-decides_groups ts = decides_same Fine Groups Groups (Listed Group_part) (Listed Group_part) Comma Comma ts (λ t c. c)
-    of_groups of_groups to_groups to_groups (listed descent.group ts) (groups_rule.comes ts)
-
--- parameters, with the parenthesis behind them
-pub decides_params : (ts : List Placed) → Decides Fine Params_parts Params_parts NoMore ts (descent.params ts)
-decides_params ts = decides_same Fine Params_parts Params_parts Params_part Params_part NoMore NoMore ts (λ t c. c)
-    params_parts params_parts closed_params closed_params (descent.params ts) (params_rule.comes ts)
-  where
-    closed_params : Within Params_parts Params_part
-    closed_params u groups p =
-        subst (λ u. Params_part u groups) (sym p.all) (to_params p.inner groups p.last p.reads)
-
--- ---- the part behind a keyword
+-- ---- the part after a keyword
 
 -- the first token of two equal lists
 first_is : (t s : Placed) (u w : List Placed) → t ∷ u ≡ s ∷ w → s ≡ t
@@ -84,7 +65,7 @@ abbrev behind : List Placed → List Placed
 behind [] = []
 behind (t ∷ u) = u
 
--- a part that begins so is the keyword, and what stands behind it
+-- a part that begins so is the keyword, and what stands after it
 led_behind : {V : Type 0} (on : Placed → Bool) (X : Placed → Part Placed V) (t : Placed) (u : List Placed) (v : V)
     → Led on X (t ∷ u) v → X t u v
 led_behind on X t u v h =
@@ -103,31 +84,13 @@ module _ (depth : ℕ) where
   pub decides_each_level : (level : Level) → Comes level depth (level_by level (unary_at depth))
   decides_each_level = decides_level depth (unary_at depth) (decides_unary depth)
 
-  pub decides_members : (ts : List Placed)
-      → Decides Fine (Members depth) (Any Members) (OrComma (Goes_on Or)) ts (listed expr ts)
-  decides_members ts = decides_same Fine (Members depth) (Any Members) (Listed (Reads Or depth)) (Listed O)
-      (OrComma (Goes_on Or)) (OrComma (Goes_on Or)) ts (λ t c. c) (of_listed depth) of_any_listed
-      (to_listed depth (Reads Or depth) (λ u v h. h))
-      (λ u v h. to_listed h.0 O (within_any (Reads Or) h.0) u v h.1) (listed expr ts)
-      (decides_listed depth expr comes ts)
-
   -- ---- requirements and statements
 
   pub decides_req : (ts : List Placed) → Decides Fine (IsReq depth) (Any IsReq) (Goes_on Or) ts (req_by expr ts)
   decides_req = decides_rule IsReq Req_part (Goes_on Or) (req_by expr) depth (of_req depth) any_req to_req
       (req_rule depth expr comes)
 
-  pub decides_reqs : (ts : List Placed)
-      → Decides Fine (ReqList depth) (Any ReqList) (OrComma (Goes_on Or)) ts (listed (req_by expr) ts)
-  decides_reqs = decides_rule ReqList (λ Z. Listed (Req_part Z)) (OrComma (Goes_on Or)) (listed (req_by expr)) depth
-      (of_reqs depth) any_reqs to_reqs (reqs_rule depth expr comes)
-
-  pub decides_requires : (ts : List Placed)
-      → Decides Fine (Requires depth) (Any Requires) OrRequires ts (requires_by expr ts)
-  decides_requires = decides_rule Requires Requires_part OrRequires (requires_by expr) depth (of_requires depth)
-      any_requires to_requires (requires_rule depth expr comes)
-
-  -- behind its keyword
+  -- after its keyword
   pub decides_stmt : (t : Placed) → stmt_begins t ≡ true → (ts : List Placed)
       → Decides Fine (λ u s. IsStmt depth (t ∷ u) s) (λ u s. Any IsStmt (t ∷ u) s) (Goes_on Or) ts
       (stmt_by expr t.0 t.1 ts)
@@ -135,10 +98,6 @@ module _ (depth : ℕ) where
       (stmt_by expr t.0 t.1) depth (λ u s h. of_stmt depth t.0 t.1 u s is h) (λ u s h. any_stmt t.0 t.1 u s is h)
       (λ d Z inside u s h. led_behind stmt_begins (λ t. Stmt_part Z t.0 t.1) t u s (to_stmt d Z inside (t ∷ u) s h))
       (stmt_rule depth expr comes t.0 t.1)
-
-  pub decides_stmts : (ts : List Placed) → Decides Fine (Stmts depth) (Any Stmts) OrStmt ts (stmts_by expr ts)
-  decides_stmts = decides_rule Stmts Stmts_part OrStmt (stmts_by expr) depth (of_stmts depth) any_stmts to_stmts
-      (stmts_rule depth expr comes)
 
   -- ---- clauses and contracts
 
@@ -149,10 +108,6 @@ module _ (depth : ℕ) where
       (λ d Z inside u c h. led_behind (is_word keyword.Clause) (λ t. Clause_part Z) t u c
       (to_clause d Z inside (t ∷ u) c h)) (clause_rule depth expr comes)
 
-  pub decides_clauses : (ts : List Placed) → Decides Fine (Clauses depth) (Any Clauses) OrClause ts (clauses_by expr ts)
-  decides_clauses = decides_rule Clauses Clauses_part OrClause (clauses_by expr) depth (of_clauses depth) any_clauses
-      to_clauses (clauses_rule depth expr comes)
-
   pub decides_contract : (t : Placed) → is_word keyword.Contract t ≡ true → (ts : List Placed)
       → Decides Fine (λ u c. IsContract depth (t ∷ u) c) (λ u c. Any IsContract (t ∷ u) c) NoMore ts
       (contract_by expr ts)
@@ -160,8 +115,3 @@ module _ (depth : ℕ) where
       (λ u c h. of_contract depth t u c is h) (λ u c h. any_contract t u c is h)
       (λ d Z inside u c h. led_behind (is_word keyword.Contract) (λ t. Contract_part Z) t u c
       (to_contract d Z inside (t ∷ u) c h)) (contract_rule depth expr comes)
-
-  pub decides_contracts : (ts : List Placed)
-      → Decides Fine (Contracts depth) (Any Contracts) OrContract ts (contracts_by expr ts)
-  decides_contracts = decides_rule Contracts Contracts_part OrContract (contracts_by expr) depth (of_contracts depth)
-      any_contracts to_contracts (contracts_rule depth expr comes)

@@ -21,7 +21,8 @@ use Rattle.ivy_syntax.specs.declared.lexeme.Operator.TheVariants as operator
 use Rattle.ivy_syntax.specs.Token.{Token, sign, Name, Number, Hex, Quoted}
 use Rattle.ivy_syntax.specs.Token as token
 use Rattle.ivy_syntax.specs.Tokens.{Placed}
-use Rattle.ivy_syntax.specs.Grammar.{Or, Unary, single, enclosed, before, Reads, alone, joined}
+use Rattle.ivy_syntax.specs.declared.level.Level.TheVariants.{Or, Unary}
+use Rattle.ivy_syntax.specs.Grammar.{single, enclosed, before, Reads, alone, joined}
 use Rattle.ivy_syntax.specs.Grammar.{one_token, a_name, IsSingle, a_number, a_true, a_false, a_hex, a_text}
 use Rattle.ivy_syntax.specs.Descent.{Start, Literal, Named, Paren, Bracket, Prefix, NoStart}
 use Rattle.ivy_syntax.specs.Grammar.{rank}
@@ -36,7 +37,7 @@ use Rattle.ivy_syntax.proofs.Unaries.{nested_unary, first_same}
 
 -- ---- where no nesting may stand
 
--- what stands behind a first token: nothing
+-- what stands after a first token: nothing
 abbrev Flat : ℕ → Start → Part Placed Expr
 Flat at (Literal form) = Nothing (single at form)
 Flat at (Named name) = Nothing (single at (forms.Name name))

@@ -1,12 +1,12 @@
 -- What a text is, by the tokens up to which its reading goes and by the first counted limit that is passed.
-use Rattle.std.specs.Prelude.{◌≡◌, ◌<◌, ◌≤◌, ◌+◌, ℕ, zero, suc, Bool, true, false, ◌&&◌, ◌==◌, nat_lt}
+use Rattle.std.specs.Prelude.{◌≡◌, ◌<◌, ◌≤◌, ◌+◌, ℕ, zero, suc, Bool, true, false, nat_lt}
 use Rattle.std.specs.Prelude.{List, [], ◌∷◌, ◌++◌, length, map, reverse, cond, slice_index, Option, Some, None}
 use Rattle.std.specs.Prelude.{Result, Ok, Err, refl}
-use Rattle.std.proofs.Common.{sym, ap, ◌∙◌, subst, true≢false, arith, inl, inr}
+use Rattle.std.proofs.Common.{sym, ap, ◌∙◌, subst, true≢false, arith}
 use Rattle.std.proofs.lemmas.Option.{none-some, same_Some}
 use Rattle.std.proofs.lemmas.List.{get_or_at, map-append, length-append, length-map}
 use Rattle.std.specs.Result.{is_ok, result_err}
-use Rattle.std.proofs.lemmas.Bool.{ltb-true, ltb-false, eqb-true, eq-eqb, cases_lt}
+use Rattle.std.proofs.lemmas.Bool.{ltb-true, ltb-false}
 use mathlib.Core.List.{append_assoc}
 use Rattle.grammars.specs.Text.{begins_front}
 use Rattle.grammars.specs.Text as language
@@ -14,14 +14,18 @@ use Rattle.grammars.specs.Places.{kinds}
 use Rattle.ivy_syntax.specs.declared.tree.Source.{Source}
 use Rattle.ivy_syntax.specs.declared.fault.ParseFault.{ParseFault}
 use Rattle.ivy_syntax.specs.declared.fault.ParseFault.TheVariants as faults
-use Rattle.ivy_syntax.specs.Token.{Token, End}
+use Rattle.ivy_syntax.specs.declared.lexeme.Symbol.TheVariants as symbol
+use Rattle.ivy_syntax.specs.declared.lexeme.Kind.{Kind}
+use Rattle.ivy_syntax.specs.declared.lexeme.Kind.TheVariants as kind
+use Rattle.ivy_syntax.specs.Token.{Token, Word, Sign, Operation, End}
 use Rattle.ivy_syntax.specs.Tokens.{Placed, AreTokens}
-use Rattle.ivy_syntax.specs.Lexeme.{kind_of}
+use Rattle.ivy_syntax.specs.Token.{kind_of}
 use Rattle.ivy_syntax.specs.Grammar.{File}
-use Rattle.ivy_syntax.specs.Limits.{passes, passes_at, FirstPassed}
+use Rattle.ivy_syntax.specs.Limits.{passes, passes_at, passes_members, passes_operators, FirstPassed}
 use Rattle.ivy_syntax.specs.Texts.{IsSource, BeginsSource, BeginsWithin, Passes, counted, nested}
 use Rattle.ivy_syntax.specs.Texts.{ReadsAs, SyntaxAt, TooManyAt, AnswersText, AreFew}
-use Rattle.ivy_syntax.specs.Answering.{unpassed, limit_there}
+use Rattle.ivy_syntax.specs.Agreement.{nests}
+use Rattle.ivy_syntax.specs.Answering.{unpassed}
 use Rattle.ivy_syntax.proofs.Splits.{kinds_joined}
 use Rattle.ivy_syntax.proofs.Verdict.{Reached, upto}
 use Rattle.ivy_syntax.proofs.CountedLimits.{kinds_of, NoneBefore, length_kinds, passes_there, few_front}
@@ -69,6 +73,23 @@ least_counted : (front : List Token) (token : Token) (what : ℕ)
     → (number : ℕ) → Passes front token number → what ≤ number
 least_counted front token what is begins _ (counted number h) = omega (arith, same_Some what number (sym is ∙ h))
 least_counted front token what is begins _ (nested some none) = absurd (none begins)
+
+by_tests : (a b : Bool) (number : ℕ) → cond a (Some 8) (cond b (Some 9) None) ≡ Some number → 7 ≤ number
+by_tests true b number is = omega (arith, same_Some 8 number is)
+by_tests false true number is = omega (arith, same_Some 9 number is)
+by_tests false false number is = absurd (none-some number is)
+
+-- a token within which others stand passes none but the last two of the counted limits
+late : (back : List Kind) (token : Token) (number : ℕ) → nests token ≡ true → passes back (kind_of token) ≡ Some number
+    → 7 ≤ number
+late back (Sign symbol.OpenParen) number is h =
+    by_tests (passes_members back) (passes_operators back (kind.Sign symbol.OpenParen)) number h
+late back (Sign symbol.OpenBracket) number is h =
+    by_tests (passes_members back) (passes_operators back (kind.Sign symbol.OpenBracket)) number h
+late back (Operation o) number is h =
+    by_tests (passes_members back) (passes_operators back (kind.Operation o)) number h
+late back (Word k) number is h = absurd (true≢false (sym is))
+late back _ number is h = absurd (true≢false (sym is))
 
 least_deep : (front : List Token) (token : Token) (what : ℕ) → what ≤ 7
     → ((number : ℕ) → passes (reverse (map kind_of front)) (kind_of token) ≡ Some number → what ≤ number)
@@ -165,41 +186,45 @@ module _ (text : List ℕ) (ts : List Placed) (are : AreTokens 0 text ts) where
       smallest = least;
     }
 
-    -- the counted limit that the token passes
-    limit_of : passes (reverse (kinds_of r.front)) (kind_of r.token.0) ≡ passes_at (kinds_of ts) (length r.front)
-    limit_of = sym (passes_there r.front r.token r.behind)
-        ∙ ap (λ (l : List Placed). passes_at (kinds_of l) (length r.front)) (sym r.split)
-
-    deep_alone : BeginsSource (upto r) → (BeginsWithin (upto r) → ⊥)
-        → passes_at (kinds_of ts) (length r.front) ≡ None → TooManyAt text 7 r.token.1
-    deep_alone begins beyond is = too_many_there 7 begins (nested begins beyond)
+    pub deep_there : nests r.token.0 ≡ true → BeginsSource (upto r) → (BeginsWithin (upto r) → ⊥)
+        → TooManyAt text 7 r.token.1
+    deep_there is begins beyond = too_many_there 7 begins (nested begins beyond)
         (least_deep (kinds r.front) r.token.0 7 (omega arith)
-        (λ number h. absurd (none-some number (sym is ∙ sym limit_of ∙ h))))
+        (λ number h. late (reverse (kinds_of r.front)) r.token.0 number is h))
 
-    deep_and : (number : ℕ) → BeginsSource (upto r) → (BeginsWithin (upto r) → ⊥)
-        → passes_at (kinds_of ts) (length r.front) ≡ Some number
-        → TooManyAt text (cond (nat_lt number 7) number 7) r.token.1
-    deep_and number begins beyond is = by (nat_lt number 7) refl
+    -- some limit is passed where the token stands too deep
+    pub deep_some : BeginsSource (upto r) → (BeginsWithin (upto r) → ⊥) → (what : ℕ) × TooManyAt text what r.token.1
+    deep_some begins beyond = by (passes (reverse (kinds_of r.front)) (kind_of r.token.0)) refl
       where
-        same : (other : ℕ) → passes (reverse (kinds_of r.front)) (kind_of r.token.0) ≡ Some other → number ≡ other
-        same other h = same_Some number other (sym is ∙ sym limit_of ∙ h)
+        first : (number : ℕ) → passes (reverse (kinds_of r.front)) (kind_of r.token.0) ≡ Some number → (b : Bool)
+            → nat_lt number 7 ≡ b → (what : ℕ) × TooManyAt text what r.token.1
+        first number is true small = (
+          number,
+          too_many_there number begins (counted number is)
+              (least_deep (kinds r.front) r.token.0 number (omega (arith, ltb-true number 7 small))
+              (λ other h. omega (arith, same_Some number other (sym is ∙ h)))),
+        )
+        first number is false large = (
+          7,
+          too_many_there 7 begins (nested begins beyond)
+              (least_deep (kinds r.front) r.token.0 7 (omega arith)
+              (λ other h. omega (arith, same_Some number other (sym is ∙ h), ltb-false number 7 large))),
+        )
 
-        by : (b : Bool) → nat_lt number 7 ≡ b → TooManyAt text (cond b number 7) r.token.1
-        by true small = too_many_there number begins (counted number (limit_of ∙ is))
-            (least_deep (kinds r.front) r.token.0 number (omega (arith, ltb-true number 7 small))
-            (λ other h. omega (arith, same other h)))
-        by false large = too_many_there 7 begins (nested begins beyond)
-            (least_deep (kinds r.front) r.token.0 7 (omega arith)
-            (λ other h. omega (arith, same other h, ltb-false number 7 large)))
+        by : (o : Option ℕ) → passes (reverse (kinds_of r.front)) (kind_of r.token.0) ≡ o
+            → (what : ℕ) × TooManyAt text what r.token.1
+        by None is = (
+          7,
+          too_many_there 7 begins (nested begins beyond)
+              (least_deep (kinds r.front) r.token.0 7 (omega arith) (λ number h. absurd (none-some number (sym is ∙ h)))),
+        )
+        by (Some number) is = first number is (nat_lt number 7) refl
 
   -- ---- by the first counted limit
 
   sizes : (rest : List Placed) (r : Reached ts rest) → length ts ≡ length r.front + length rest
   sizes rest r = ap (λ (l : List Placed). length l) (r.split ∙ ap (λ b. r.front ++ b) (sym r.first))
       ∙ length-append r.front rest
-
-  some_rest : (rest : List Placed) (r : Reached ts rest) → 0 < length rest
-  some_rest rest r = subst (λ (l : List Placed). 0 < length l) (sym r.first) (omega arith)
 
   abbrev counted_result : Bool → ℕ × ℕ → Result (Unit {0}) ParseFault
   counted_result b found = cond b (Err (faults.TooMany found.1 (slice_index (places_of ts) found.0))) (Ok tt)
@@ -246,34 +271,3 @@ module _ (text : List ℕ) (ts : List Placed) (are : AreTokens 0 text ts) where
           subst (λ f. AnswersText text (Err f)) (same_Some number fault (ap result_err is))
           (counted_there rest r found.0 found.1 within first.1 first.2)
       by false large is = absurd (true≢false (ap is_ok is))
-
-  -- the rest stands too deep
-  pub deep_there : (rest : List Placed) (r : Reached ts rest) (found : Option (ℕ × ℕ)) → FirstPassed (kinds_of ts) found
-      → NoneBefore (kinds_of ts) (length r.front) → BeginsSource (upto r) → (BeginsWithin (upto r) → ⊥)
-      → TooManyAt text (limit_there (length ts) (length rest) found) r.token.1
-  deep_there rest r None first none begins beyond = deep_alone rest r none begins beyond
-      (first (length r.front) (omega (arith, some_rest rest r, sizes rest r, length_kinds ts)))
-  deep_there rest r (Some found) first none begins beyond = by (found.0 + length rest == length ts) refl
-    where
-      -- the first one is not passed before the rest
-      later : found.0 < length r.front → ⊥
-      later within = none-some found.1 (sym (none found.0 within) ∙ first.1)
-
-      by : (b : Bool) → (found.0 + length rest == length ts) ≡ b
-          → TooManyAt text (cond (b && nat_lt found.1 7) found.1 7) r.token.1
-      by true same =
-          let here : found.0 ≡ length r.front =
-          omega (arith, eqb-true (found.0 + length rest) (length ts) same, sizes rest r) in
-          deep_and rest r none found.1 begins beyond
-          (subst (λ (n : ℕ). passes_at (kinds_of ts) n ≡ Some found.1) here first.1)
-      by false other = deep_alone rest r none begins beyond (first.2 (length r.front) further)
-        where
-          further : length r.front < found.0
-          further = elim (cases_lt (length r.front) found.0) [
-            | inl less ↦ less
-            | inr more ↦ elim (cases_lt found.0 (length r.front)) [
-              | inl before ↦ absurd (later before)
-              | inr not ↦ absurd (true≢false (sym (eq-eqb (found.0 + length rest) (length ts)
-                  (omega (arith, more, not, sizes rest r))) ∙ other))
-            ]
-          ]

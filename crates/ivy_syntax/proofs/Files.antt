@@ -20,7 +20,8 @@ use Rattle.ivy_syntax.specs.declared.lexeme.Symbol.TheVariants as symbol
 use Rattle.ivy_syntax.specs.Token.{Token, Name}
 use Rattle.ivy_syntax.specs.Token as token
 use Rattle.ivy_syntax.specs.Tokens.{Placed}
-use Rattle.ivy_syntax.specs.Grammar.{Or, Reads, word, Params, Requires, Stmts, IsClause, clause, Clauses, a_clause}
+use Rattle.ivy_syntax.specs.declared.level.Level.TheVariants.{Or}
+use Rattle.ivy_syntax.specs.Grammar.{Reads, word, Params, Requires, Stmts, IsClause, clause, Clauses, a_clause}
 use Rattle.ivy_syntax.specs.Grammar.{more_clauses, IsContract, contract, Contracts, a_contract, more_contracts, File}
 use Rattle.ivy_syntax.specs.Grammar.{file}
 use Rattle.ivy_syntax.specs.Descent.{Reader, is_word, the_word, named, open_paren, open_brace, close_brace}
@@ -44,7 +45,7 @@ O = Any (Reads Or)
 abbrev Led_clause : Part Placed Expr → Part Placed ClauseTree
 Led_clause Z = Led (is_word keyword.Clause) (λ t. Clause_part Z)
 
--- the requirements and the statements of a clause, behind its parameters
+-- the requirements and the statements of a clause, after its parameters
 to_clause_body : (depth : ℕ) (Z : Part Placed Expr) → Within (Reads Or depth) Z → (name : Word) (groups : List Group)
     (v w : List Placed) (reqs : List Req) (stmts : List Stmt) (begin end : ℕ) → Requires depth v reqs
     → Stmts depth w stmts → Clause_body Z name groups (v ++ ((token.Sign symbol.OpenBrace, begin)
@@ -236,7 +237,7 @@ any_clauses = repeated_reads (is_word keyword.Clause) (λ t. Clause_part O) (Any
 abbrev Led_contract : Part Placed Expr → Part Placed Contract
 Led_contract Z = Led (is_word keyword.Contract) (λ t. Contract_part Z)
 
--- what a contract locks and its clauses, behind its parameters
+-- what a contract locks and its clauses, after its parameters
 to_contract_body : (depth : ℕ) (Z : Part Placed Expr) → Within (Reads Or depth) Z → (name : Word) (groups : List Group)
     (w : List Placed) (clauses : List ClauseTree) (locks : ℕ) (value : List ℕ) (held begin end : ℕ)
     → Clauses depth w clauses → Contract_body Z name groups ((token.Word keyword.Locks, locks) ∷ (Name value, held)

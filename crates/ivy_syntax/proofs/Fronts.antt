@@ -3,17 +3,13 @@ use Rattle.std.proofs.Common.{◌≡◌, ◌≤◌, ◌<◌, ◌+◌, ◌-◌, �
 use Rattle.std.proofs.Common.{false}
 use Rattle.std.proofs.Common.{List, [], ◌∷◌, ◌++◌, inl, inr, length, take, drop, slice_index, cond, refl, ap, sym, ◌∙◌}
 use Rattle.std.proofs.Common.{subst}
-use Rattle.std.proofs.Common.{arith, Option, Some, None, bytes_eq, leb, get_or}
-use Rattle.std.specs.Int.{IsInRange}
-use Rattle.std.proofs.lemmas.Bool.{le-leb, cond_both}
+use Rattle.std.proofs.Common.{arith, Option, Some, None, bytes_eq}
+use Rattle.std.proofs.lemmas.Bool.{cond_both}
 use Rattle.std.proofs.lemmas.List.{length-take-le, length-append, take_at, take_more}
-use Rattle.std.proofs.lemmas.Str.Parse.{IsNumeralModel, numerals_by_value}
-use Rattle.std.proofs.lemmas.Fmt.{decimal-digits_value}
 use Rattle.std.specs.Prelude.{codes, decimal, option_map}
 use Rattle.std.specs.List.{list_all, prefix_len}
 use Rattle.std.specs.Char.{is_ascii_digit, is_ascii_hexdigit, digit_value}
-use Rattle.std.specs.Str.Parse.{digits_value}
-use Rattle.std.proofs.lemmas.Bool.{cases_Bool, cond-true, cond-false, and_parts, and_from, eqb-true, leb-true}
+use Rattle.std.proofs.lemmas.Bool.{cases_Bool, cond-true, cond-false, and_parts, eqb-true}
 use Rattle.std.proofs.lemmas.Bool.Decides.{nat_tests}
 use Rattle.std.proofs.lemmas.Slice.Eq.{bytes_eq-Decides}
 use Rattle.std.proofs.lemmas.Grind.{common_steps}
@@ -29,7 +25,9 @@ use Rattle.ivy_syntax.specs.Token.{letters, sign, mark, begins_name, goes_on, is
 use Rattle.ivy_syntax.specs.Tokens.{EndsBefore}
 use Rattle.ivy_syntax.specs.Lexeme.{value_of, token_of}
 use Rattle.ivy_syntax.specs.Cutting.{Cut, keyword_among, all_keywords, keyword_of, word_kind, word_at}
-use Rattle.ivy_syntax.specs.Cutting.{is_decimal, within_most, number_of, number_at, hex_at, quoted_at, pair_of}
+use Rattle.wire.specs.Decimal.{decimal_within, decimal_read}
+use Rattle.wire.specs.Spelling.{greatest}
+use Rattle.ivy_syntax.specs.Cutting.{number_at, hex_at, quoted_at, pair_of}
 use Rattle.ivy_syntax.specs.Cutting.{symbol_of}
 use Rattle.ivy_syntax.specs.Cutting.{operator_of, single_cut, sign_cut, sign_at, token_at}
 use Rattle.ivy_syntax.proofs.Runs.{StopsAt, prefix_yes, run_passes, run_stops, all_front}
@@ -147,54 +145,16 @@ word_sound b rest e =
 
 -- ---- numbers
 
-abbrev pub are_digits : List ℕ → Type 0
-are_digits digits = list_all is_ascii_digit digits ≡ true
-
-digit_parts : (c : ℕ) (cs : List ℕ) → are_digits (c ∷ cs) → IsInRange 48 57 c × are_digits cs
-digit_parts c cs e =
-    let parts = and_parts (is_ascii_digit c) (list_all is_ascii_digit cs) e in
-    let bounds = and_parts (leb 48 c) (leb c 57) parts.0 in
-    ((leb-true 48 c bounds.0, leb-true c 57 bounds.1), parts.1)
-
-digit_more : (c : ℕ) (cs : List ℕ) → IsInRange 48 57 c → are_digits cs → are_digits (c ∷ cs)
-digit_more c cs h e = and_from _ _ (and_from _ _ (le-leb 48 c h.0) (le-leb c 57 h.1)) e
-
-pub numerals : IsNumeralModel are_digits (digits_value 10)
-numerals = numerals_by_value are_digits (record { empty = refl; parts = digit_parts; more = digit_more })
-
-decimal_digits : (digits : List ℕ) → is_decimal digits ≡ true
-    → (list_all is_ascii_digit digits ≡ true) × (0 < length digits) × (get_or digits 0 0 ≡ 48 → length digits ≡ 1)
-decimal_digits [] e = (let f : false ≡ true = e in cc)
-decimal_digits (d ∷ []) e = (grind (arith, nat_tests), omega arith, λ _. omega arith)
-decimal_digits (d ∷ c ∷ ds) e = (grind (arith, nat_tests), omega arith, λ f. grind (arith, nat_tests))
-
-number_is : (digits : List ℕ) (n : ℕ) → number_of digits ≡ Some n → (digits ≡ decimal n) × (n < 2 ^ 63)
-unfolding number_of
+number_is : (digits : List ℕ) (n : ℕ) → decimal_within greatest digits ≡ Some n → (digits ≡ decimal n) × (n < 2 ^ 63)
 number_is digits n e =
-    elim (cases_Bool (is_decimal digits)) [
-      | inr f ↦ (let no : None ≡ Some n = sym (cond-false _ _ _ f) ∙ e in cc)
-      | inl t ↦
-          (let g : within_most (digits_value 10 digits) ≡ Some n = sym (cond-true _ _ _ t) ∙ e in
-          let parts = decimal_digits digits t in
-          elim (cases_Bool (leb (digits_value 10 digits) (2 ^ 63 - 1))) [
-            | inr f ↦ (let no : None ≡ Some n = sym (cond-false _ _ _ f) ∙ g in cc)
-            | inl u ↦
-                (let same : Some (digits_value 10 digits) ≡ Some n = sym (cond-true _ _ _ u) ∙ g in
-                let is : digits_value 10 digits ≡ n = cc in
-                let small : digits_value 10 digits ≤ 2 ^ 63 - 1 = leb-true _ _ u in (
-                  sym (decimal-digits_value numerals digits parts.0 parts.1 parts.2 (omega arith))
-                      ∙ ap decimal is,
-                  omega arith,
-                ))
-          ])
-    ]
+    let read = decimal_read greatest digits n (omega arith) e in (sym read.1, omega (arith, read.0))
 
 ends_there : (n : ℕ) (rest : List ℕ) → StopsAt goes_on rest → EndsBefore (Number n) rest
 ends_there n [] h = tt
 ends_there n (b ∷ rest) h = h
 
 number_cut_sound : (text : List ℕ) (found : Option ℕ) → 0 < prefix_len goes_on text
-    → number_of (take (prefix_len goes_on text) text) ≡ found
+    → decimal_within greatest (take (prefix_len goes_on text) text) ≡ found
     → SoundCut text (option_map (λ n. (kind.Number n, prefix_len goes_on text)) found)
 unfolding SoundCut
 number_cut_sound text None p e = tt
@@ -210,7 +170,7 @@ unfolding number_at
 number_sound b rest e =
     let len : prefix_len goes_on (b ∷ rest) ≡ suc (prefix_len goes_on rest)
     = prefix_yes goes_on b rest (digit_goes_on b e) in
-    number_cut_sound (b ∷ rest) (number_of (take (prefix_len goes_on (b ∷ rest)) (b ∷ rest))) (omega (arith, len)) refl
+    number_cut_sound (b ∷ rest) (decimal_within greatest (take (prefix_len goes_on (b ∷ rest)) (b ∷ rest))) (omega (arith, len)) refl
 
 -- ---- hex
 
@@ -326,9 +286,6 @@ sign_sound (b ∷ []) =
 sign_sound (b ∷ next ∷ rest) = pair_sound b next rest (pair_of b next) refl
 
 -- ---- the token at the front
-
-quote_digits : (b : ℕ) → is_ascii_digit b ≡ false → b ≡ 48 → ⊥
-quote_digits b e f = grind (arith, nat_tests)
 
 hex_front_sound : (b : ℕ) (rest : List ℕ) → (b == 48 && slice_index rest 0 == 120) ≡ true
     → SoundCut (b ∷ rest) (hex_at (b ∷ rest))

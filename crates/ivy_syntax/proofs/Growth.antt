@@ -3,7 +3,8 @@ use Rattle.std.specs.Prelude.{ℕ, suc, List}
 use Rattle.grammars.specs.Depth.{Grows}
 use Rattle.ivy_syntax.specs.declared.tree.Expr.{Expr}
 use Rattle.ivy_syntax.specs.Tokens.{Placed}
-use Rattle.ivy_syntax.specs.Grammar.{Level, Reads, alone, joined, compared, prefixed, one_token, empty_call, call}
+use Rattle.ivy_syntax.specs.declared.level.Level.{Level}
+use Rattle.ivy_syntax.specs.Grammar.{Reads, alone, joined, compared, prefixed, one_token, empty_call, call}
 use Rattle.ivy_syntax.specs.Grammar.{members, parentheses, Members, member, more_members, IsReq, req, ReqList, a_req}
 use Rattle.ivy_syntax.specs.Grammar.{more_reqs, Requires, no_requires, requires, IsStmt, verify, lock, unlock, Stmts}
 use Rattle.ivy_syntax.specs.Grammar.{a_stmt, more_stmts, IsClause, clause, Clauses, a_clause, more_clauses, IsContract}

@@ -14,7 +14,9 @@ use Rattle.ivy_syntax.specs.declared.lexeme.Symbol.TheVariants as symbol
 use Rattle.ivy_syntax.specs.Token.{Token, Operation, Name}
 use Rattle.ivy_syntax.specs.Token as token
 use Rattle.ivy_syntax.specs.Tokens.{Placed}
-use Rattle.ivy_syntax.specs.Grammar.{Level, Or, Comparison, Shift, Unary, below, Reads, alone, joined, compared}
+use Rattle.ivy_syntax.specs.declared.level.Level.{Level}
+use Rattle.ivy_syntax.specs.declared.level.Level.TheVariants.{Or, Comparison, Shift, Unary}
+use Rattle.ivy_syntax.specs.Grammar.{below, Reads, alone, joined, compared}
 use Rattle.ivy_syntax.specs.Grammar.{prefixed, one_token, empty_call, call, members, parentheses, Members, member}
 use Rattle.ivy_syntax.specs.Grammar.{more_members, between, before, enclosed, single, word, Names, a_name_alone}
 use Rattle.ivy_syntax.specs.Grammar.{more_names, IsGroup, group, Groups, a_group, more_groups, Params, no_params}

@@ -1,5 +1,5 @@
 -- Expressions come out as the parser goes, level by level.
-use Rattle.std.specs.Prelude.{◌≡◌, ℕ, ◌≤◌, Bool, true, false, List, [], ◌∷◌, ◌++◌, refl}
+use Rattle.std.specs.Prelude.{◌≡◌, ℕ, ◌≤◌, Bool, true, false, List, [], ◌∷◌, ◌++◌, Option, Some, None, refl}
 use Rattle.std.proofs.Common.{sym, ap, ◌∙◌, subst, true≢false, arith}
 use Rattle.grammars.specs.Part.{Part, Completes, Decides}
 use Rattle.grammars.specs.Sequence.{Within}
@@ -10,18 +10,25 @@ use Rattle.ivy_syntax.specs.declared.tree.Expr.{Expr}
 use Rattle.ivy_syntax.specs.declared.tree.Form.TheVariants as forms
 use Rattle.ivy_syntax.specs.Token.{Operation, Number}
 use Rattle.ivy_syntax.specs.Tokens.{Placed}
-use Rattle.ivy_syntax.specs.Grammar.{Level, Or, And, Comparison, Shift, Sum, Term, Unary, below, between, single}
+use Rattle.ivy_syntax.specs.declared.level.Level.{Level}
+use Rattle.ivy_syntax.specs.declared.level.Level.TheVariants.{Or, And, Comparison, Shift, Sum, Term, Unary}
+use Rattle.ivy_syntax.specs.Grammar.{below, between, single}
 use Rattle.ivy_syntax.specs.Grammar.{Reads, alone, joined, compared, prefixed, one_token, empty_call, call, members}
 use Rattle.ivy_syntax.specs.Grammar.{parentheses, a_number}
-use Rattle.ivy_syntax.specs.Descent.{Reader, strength, joins, join, chain_by, compare_by, term_by}
+use Rattle.ivy_syntax.specs.Descent.{Reader, joins, op_of, join, chain_by, compare_by, term_by}
 use Rattle.ivy_syntax.specs.Grammar.{rank}
 use Rattle.ivy_syntax.specs.Descent.{sum_by, shift_by, comparison_by, and_by, expr_by, level_by}
-use Rattle.ivy_syntax.proofs.Pieces.{Fine, zero_fine, next_rank, binary_is, joins_is, joining_is, is_joining}
+use Rattle.ivy_syntax.proofs.Pieces.{Fine, zero_fine, HasOperators, binds_more, goes_at, goes_of, joining_is, is_joining}
 use Rattle.ivy_syntax.proofs.Growth.{reads_grow}
 
--- what an expression of a level goes on with: its operators, those of the levels below it, and a call's parenthesis
+abbrev pub IsAtLeast : Level → Option Level → Type 0
+IsAtLeast level None = ⊥
+IsAtLeast level (Some found) = rank level ≤ rank found
+
+-- what an expression of a level goes on with: its operators, those of the levels that bind more, and a call's
+-- parenthesis
 abbrev pub Goes_on : Level → Placed → Type 0
-Goes_on level t = rank level ≤ strength t.0
+Goes_on level t = IsAtLeast level (goes_at t.0)
 
 -- an expression of this level comes out as this reader reads
 abbrev pub Comes : Level → ℕ → Reader Expr → Type 0
@@ -60,79 +67,86 @@ any_expr level = record {
 
 -- ---- chains
 
-join_one : (level : Level) → rank level ≤ 6 → (level ≡ Comparison → ⊥) → (depth : ℕ) (u w : List Placed) (t : Placed)
+join_one : (level : Level) → (level ≡ Comparison → ⊥) → (depth : ℕ) (u w : List Placed) (t : Placed)
     (a b : Expr) → Reads level depth u a → joins level t ≡ true → Reads (below level) depth w b
     → Reads level depth (u ++ (t ∷ w)) (join t a b)
-join_one level low not depth u w t a b h is k =
-    let found = joining_is level low t is in
+join_one level not depth u w t a b h is k =
+    let found = joining_is level t is in
     subst (λ t'. Reads level depth (u ++ (t' ∷ w)) (join t a b)) (sym found.1) (joined found.0 t.1 found.2 not h k)
 
 abbrev Joined : Level → Part Placed Expr → Part Placed Expr
 Joined level X = Chained (joins level) join X
 
-of_joined : (level : Level) → rank level ≤ 6 → (level ≡ Comparison → ⊥) → (depth : ℕ)
+of_joined : (level : Level) → (level ≡ Comparison → ⊥) → (depth : ℕ)
     → Within (Joined level (Reads (below level) depth)) (Reads level depth)
-of_joined level low not depth = chained_reads (joins level) join (Reads (below level) depth) (Reads level depth)
-    (λ u a h. alone h) (join_one level low not depth)
+of_joined level not depth = chained_reads (joins level) join (Reads (below level) depth) (Reads level depth)
+    (λ u a h. alone h) (join_one level not depth)
 
-of_any_joined : (level : Level) → rank level ≤ 6 → (level ≡ Comparison → ⊥)
+of_any_joined : (level : Level) → (level ≡ Comparison → ⊥)
     → Within (Joined level (Any (Reads (below level)))) (Any (Reads level))
-of_any_joined level low not = chained_reads (joins level) join (Any (Reads (below level))) (Any (Reads level))
+of_any_joined level not = chained_reads (joins level) join (Any (Reads (below level))) (Any (Reads level))
     (λ u a h. (h.0, alone h.1)) (λ u w t a b h is k.
     let both = together (Reads level) (Reads (below level)) (reads_grow level) (reads_grow (below level)) u w a b h k in
-    (both.0, join_one level low not both.0 u w t a b both.1 is both.2))
+    (both.0, join_one level not both.0 u w t a b both.1 is both.2))
 
-to_joined : (level : Level) → rank level ≤ 6 → (level ≡ Comparison → ⊥) → (depth : ℕ) (Z : Part Placed Expr)
+to_joined : (level : Level) → HasOperators level → (level ≡ Comparison → ⊥) → (depth : ℕ) (Z : Part Placed Expr)
     → Within (Reads (below level) depth) Z → (u : List Placed) (e : Expr) → Reads level depth u e → Joined level Z u e
-to_joined level low not depth Z inside u e (alone h) = chained_one (joins level) join Z u e (inside u e h)
-to_joined level low not depth Z inside _ _ (joined {u = u} {w = w} {a = a} {b = b} {op = op} o at is _ h k) =
-    subst (λ op. Joined level Z (u ++ ((Operation o, at) ∷ w)) (between at op a b)) (binary_is o level op is).1
-    (chained_more (joins level) join Z u w (Operation o, at) a b (to_joined level low not depth Z inside u a h)
+to_joined level has not depth Z inside u e (alone h) = chained_one (joins level) join Z u e (inside u e h)
+to_joined level has not depth Z inside _ _ (joined {u = u} {w = w} {a = a} {b = b} {op = op} o at is _ h k) =
+    subst (λ op. Joined level Z (u ++ ((Operation o, at) ∷ w)) (between at op a b)) (ap op_of is)
+    (chained_more (joins level) join Z u w (Operation o, at) a b (to_joined level has not depth Z inside u a h)
     (is_joining level o op at is) (inside w b k))
-to_joined _ low not depth Z inside _ _ (compared o at is h k) = absurd (not refl)
-to_joined _ low not depth Z inside _ _ (prefixed o at is h) = absurd (omega (arith, low))
-to_joined _ low not depth Z inside _ _ (one_token at is) = absurd (omega (arith, low))
-to_joined _ low not depth Z inside _ _ (empty_call name at first last) = absurd (omega (arith, low))
-to_joined _ low not depth Z inside _ _ (call name at first last h) = absurd (omega (arith, low))
-to_joined _ low not depth Z inside _ _ (members at close h) = absurd (omega (arith, low))
-to_joined _ low not depth Z inside _ _ (parentheses at close h) = absurd (omega (arith, low))
+to_joined _ has not depth Z inside _ _ (compared o at is h k) = absurd (not refl)
+to_joined _ has not depth Z inside _ _ (prefixed o at is h) = absurd has
+to_joined _ has not depth Z inside _ _ (one_token at is) = absurd has
+to_joined _ has not depth Z inside _ _ (empty_call name at first last) = absurd has
+to_joined _ has not depth Z inside _ _ (call name at first last h) = absurd has
+to_joined _ has not depth Z inside _ _ (members at close h) = absurd has
+to_joined _ has not depth Z inside _ _ (parentheses at close h) = absurd has
 
-apart : (level : Level) → rank level ≤ 6 → (t : Placed) → joins level t ≡ true → Goes_on (below level) t → ⊥
-apart level low t is more =
-    let same = joins_is level t is in
-    let up = next_rank level low in
-    omega (arith, same, up, more)
+apart : (level : Level) → HasOperators level → (t : Placed) → joins level t ≡ true → Goes_on (below level) t → ⊥
+apart level has t is more =
+    let up = binds_more level has in
+    let again : rank (below level) ≤ rank level = subst (IsAtLeast (below level)) (goes_of level t is) more in
+    omega (arith, up, again)
 
-covers : (level : Level) → rank level ≤ 6 → (t : Placed) → Goes_on (below level) t → Goes_on level t
-covers level low t more = let up = next_rank level low in omega (arith, up, more)
+covers_found : (level : Level) → HasOperators level → (found : Option Level) → IsAtLeast (below level) found
+    → IsAtLeast level found
+covers_found level has None more = more
+covers_found level has (Some found) more = let up = binds_more level has in omega (arith, up, more)
+
+covers : (level : Level) → HasOperators level → (t : Placed) → Goes_on (below level) t → Goes_on level t
+covers level has t more = covers_found level has (goes_at t.0) more
 
 ons : (level : Level) (t : Placed) → joins level t ≡ true → Goes_on level t
-ons level t is = let same = joins_is level t is in omega (arith, same)
+ons level t is =
+    let same : rank level ≤ rank level = omega arith in
+    subst (IsAtLeast level) (sym (goes_of level t is)) same
 
-the_chain : (level : Level) → rank level ≤ 6 → (depth : ℕ) (operand : Reader Expr) → Comes (below level) depth operand
+the_chain : (level : Level) → HasOperators level → (depth : ℕ) (operand : Reader Expr) → Comes (below level) depth operand
     → IsChain Fine (joins level) (λ t. Reads (below level) depth) (λ t. Any (Reads (below level)))
     (Goes_on (below level))
     (Goes_on level) (λ t. operand)
-the_chain level low depth operand comes = record {
+the_chain level has depth operand comes = record {
   within = λ t u v h. (depth, h);
   some = λ t is. some_expr (below level) depth;
-  apart = apart level low;
-  covers = covers level low;
+  apart = apart level has;
+  covers = covers level has;
   ons = ons level;
   reads = λ t ts is. comes ts;
 }
 
-decides_joined : (level : Level) → rank level ≤ 6 → (level ≡ Comparison → ⊥) → (depth : ℕ) (operand : Reader Expr)
+decides_joined : (level : Level) → HasOperators level → (level ≡ Comparison → ⊥) → (depth : ℕ) (operand : Reader Expr)
     → Comes (below level) depth operand → Comes level depth (chain_by level operand)
-decides_joined level low not depth operand comes ts =
+decides_joined level has not depth operand comes ts =
     decides_same Fine (Reads level depth) (Any (Reads level)) (Joined level (Reads (below level) depth))
     (Joined level (Any (Reads (below level)))) (Goes_on level) (Goes_on level) ts (λ t c. c)
-    (of_joined level low not depth) (of_any_joined level low not)
-    (to_joined level low not depth (Reads (below level) depth) (λ u v h. h))
-    (λ u v h. to_joined level low not h.0 (Any (Reads (below level))) (within_any (Reads (below level)) h.0) u v h.1)
+    (of_joined level not depth) (of_any_joined level not)
+    (to_joined level has not depth (Reads (below level) depth) (λ u v h. h))
+    (λ u v h. to_joined level has not h.0 (Any (Reads (below level))) (within_any (Reads (below level)) h.0) u v h.1)
     (chain_by level operand ts)
     (decides_chained Fine (joins level) (Reads (below level) depth) (Any (Reads (below level))) (Goes_on (below level))
-    (Goes_on level) operand join (the_chain level low depth operand comes) (within_any (Reads (below level)) depth)
+    (Goes_on level) operand join (the_chain level has depth operand comes) (within_any (Reads (below level)) depth)
     comes ts)
 
 -- ---- comparisons
@@ -143,7 +157,7 @@ Compared X = Paired (joins Comparison) join X
 compare : (depth : ℕ) (u w : List Placed) (t : Placed) (a b : Expr) → Reads Shift depth u a → joins Comparison t ≡ true
     → Reads Shift depth w b → Reads Comparison depth (u ++ (t ∷ w)) (join t a b)
 compare depth u w t a b h is k =
-    let found = joining_is Comparison (omega arith) t is in
+    let found = joining_is Comparison t is in
     subst (λ t'. Reads Comparison depth (u ++ (t' ∷ w)) (join t a b)) (sym found.1) (compared found.0 t.1 found.2 h k)
 
 of_compared : (depth : ℕ) → Within (Compared (Reads Shift depth)) (Reads Comparison depth)
@@ -161,7 +175,7 @@ to_compared : (depth : ℕ) (Z : Part Placed Expr) → Within (Reads Shift depth
 to_compared depth Z inside u e (alone h) = paired_one (joins Comparison) join Z u e (inside u e h)
 to_compared depth Z inside _ _ (joined o at is not h k) = absurd (not refl)
 to_compared depth Z inside _ _ (compared {u = u} {w = w} {a = a} {b = b} {op = op} o at is h k) =
-    subst (λ op. Compared Z (u ++ ((Operation o, at) ∷ w)) (between at op a b)) (binary_is o Comparison op is).1
+    subst (λ op. Compared Z (u ++ ((Operation o, at) ∷ w)) (between at op a b)) (ap op_of is)
     (paired_two (joins Comparison) join Z u w (Operation o, at) a b (inside u a h)
     (is_joining Comparison o op at is) (inside w b k))
 
@@ -174,7 +188,7 @@ decides_compared depth operand comes ts =
     (λ u v h. to_compared h.0 (Any (Reads Shift)) (within_any (Reads Shift) h.0) u v h.1)
     (compare_by operand ts)
     (decides_paired Fine (joins Comparison) (Reads Shift depth) (Any (Reads Shift)) (Goes_on Shift)
-    (Goes_on Comparison) operand join (the_chain Comparison (omega arith) depth operand comes)
+    (Goes_on Comparison) operand join (the_chain Comparison tt depth operand comes)
     (within_any (Reads Shift) depth) comes ts)
 
 -- ---- all levels
@@ -188,23 +202,23 @@ other level not same = true≢false (sym (ap is_comparison same) ∙ not)
 
 module _ (depth : ℕ) (operand : Reader Expr) (comes : Comes Unary depth operand) where
   decides_term : Comes Term depth (term_by operand)
-  decides_term = decides_joined Term (omega arith) (other Term refl) depth operand comes
+  decides_term = decides_joined Term tt (other Term refl) depth operand comes
 
   decides_sum : Comes Sum depth (sum_by operand)
-  decides_sum = decides_joined Sum (omega arith) (other Sum refl) depth (term_by operand) decides_term
+  decides_sum = decides_joined Sum tt (other Sum refl) depth (term_by operand) decides_term
 
   decides_shift : Comes Shift depth (shift_by operand)
-  decides_shift = decides_joined Shift (omega arith) (other Shift refl) depth (sum_by operand) decides_sum
+  decides_shift = decides_joined Shift tt (other Shift refl) depth (sum_by operand) decides_sum
 
   decides_comparison : Comes Comparison depth (comparison_by operand)
   decides_comparison = decides_compared depth (shift_by operand) decides_shift
 
   decides_and : Comes And depth (and_by operand)
-  decides_and = decides_joined And (omega arith) (other And refl) depth (comparison_by operand) decides_comparison
+  decides_and = decides_joined And tt (other And refl) depth (comparison_by operand) decides_comparison
 
   -- An expression comes out, where what is unary does.
   pub decides_expr : Comes Or depth (expr_by operand)
-  decides_expr = decides_joined Or (omega arith) (other Or refl) depth (and_by operand) decides_and
+  decides_expr = decides_joined Or tt (other Or refl) depth (and_by operand) decides_and
 
   -- And so does one of each level.
   pub decides_level : (level : Level) → Comes level depth (level_by level operand)

@@ -1,4 +1,3 @@
-pub mod CutNumbers
 pub mod Cuts
 pub mod Runs
 pub mod Fronts

@@ -37,7 +37,7 @@ pub record Rest : Type 0 where
   pub part : Option Kind
   pub stack : List ℕ
 
--- behind so many contracts, clauses and statements, in signatures c, d and m; x is the rest
+-- after so many contracts, clauses and statements, in signatures c, d and m; x is the rest
 abbrev pub counting : ℕ → ℕ → ℕ → Option Kind → Rest → State
 counting contracts clauses statements last rest = record {
   contracts = contracts;
@@ -70,7 +70,7 @@ closing_brace = kind.Sign symbol.CloseBrace
 
 -- ---- requirements
 
--- in the requirements of a clause, behind the keyword f and then k, with o operators, a assets and p parameters
+-- in the requirements of a clause, after the keyword f and then k, with o operators, a assets and p parameters
 abbrev asked : State → ℕ → ℕ → Keyword → Kind → ℕ → State
 asked s o a f k p = record s {
   operators = o;
@@ -82,7 +82,7 @@ asked s o a f k p = record s {
   stack = [];
 }
 
--- a keyword behind which a requirement may begin
+-- a keyword after which a requirement may begin
 record LeadsReq (f : Keyword) : Type 0 where
   takes : takes_expressions (kind.Word f) ≡ true
   contract : is_contract (kind.Word f) ≡ false
@@ -250,7 +250,7 @@ requires_read depth c d m last x _ reqs no_comma (requires {u = u} at h) =
 
 -- ---- statements
 
--- behind a keyword that begins a section
+-- after a keyword that begins a section
 abbrev pub begun : Keyword → Rest → Rest
 begun k x = record x { params = 0; section = Some (kind.Word k); part = Some (kind.Word k); stack = [] }
 
@@ -258,7 +258,7 @@ begun k x = record x { params = 0; section = Some (kind.Word k); part = Some (ki
 abbrev begun_expr : Keyword → Rest → Rest
 begun_expr k x = record (begun k x) { operators = 0 }
 
--- a keyword that is counted, behind a token that is no comma
+-- a keyword that is counted, after a token that is no comma
 pub counted_here : (s : State) (number most n : ℕ)
     → told_by (nat_le most n) number (told_by (member_passed s) 8 None) ≡ None
     → n < most

@@ -15,7 +15,7 @@ use Rattle.ivy_syntax.specs.declared.lexeme.Kind.TheVariants as kind
 use Rattle.ivy_syntax.specs.Token.{Token}
 use Rattle.ivy_syntax.specs.Token as token
 use Rattle.ivy_syntax.specs.Tokens.{Placed}
-use Rattle.ivy_syntax.specs.Lexeme.{kind_of}
+use Rattle.ivy_syntax.specs.Token.{kind_of}
 use Rattle.ivy_syntax.specs.Grammar.{IsSingle, a_number, a_true, a_false, a_hex, a_text, a_name, single, between}
 use Rattle.ivy_syntax.specs.Grammar.{before}
 use Rattle.ivy_syntax.specs.Limits.{is_contract, is_clause, is_requires, is_comma, leads_param, takes_expressions}
@@ -103,7 +103,7 @@ pub record ExprRead (s : State) (u : List Placed) (e : Expr) : Type 0 where
 abbrev pub within : State → Kind → State
 within s k = record s { last = Some k; stack = 0 ∷ s.stack }
 
--- in a bracket, with n operators, k last, p parameters, and behind c commas
+-- in a bracket, with n operators, k last, p parameters, and after c commas
 abbrev pub listed : State → ℕ → Kind → ℕ → ℕ → State
 listed s n k p c = record s { operators = n; last = Some k; params = p; stack = c ∷ s.stack }
 
@@ -123,7 +123,7 @@ pub record MembersRead (s : State) (k : Kind) (u : List Placed) (items : List Ex
   pub to : NonePasses (within s k) u → MembersFit s items
   pub from : MembersFit s items → NonePasses (within s k) u
 
--- behind a token that is no comma no member begins
+-- after a token that is no comma no member begins
 pub no_entry : (s : State) → holds is_comma s.last ≡ false → member_passed s ≡ false
 no_entry s h = ap (λ b. b && holds takes_expressions s.section && at_least 16 (first_of s.stack)) h
 

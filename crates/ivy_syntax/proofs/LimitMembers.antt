@@ -13,8 +13,9 @@ use Rattle.ivy_syntax.specs.declared.lexeme.Kind.TheVariants as kind
 use Rattle.ivy_syntax.specs.Token.{Token}
 use Rattle.ivy_syntax.specs.Token as token
 use Rattle.ivy_syntax.specs.Tokens.{Placed}
-use Rattle.ivy_syntax.specs.Lexeme.{kind_of}
-use Rattle.ivy_syntax.specs.Grammar.{Level, Reads, alone, joined, compared, prefixed, one_token, empty_call, call}
+use Rattle.ivy_syntax.specs.Token.{kind_of}
+use Rattle.ivy_syntax.specs.declared.level.Level.{Level}
+use Rattle.ivy_syntax.specs.Grammar.{Reads, alone, joined, compared, prefixed, one_token, empty_call, call}
 use Rattle.ivy_syntax.specs.Grammar.{members, parentheses, Members, member, more_members, single, enclosed}
 use Rattle.ivy_syntax.specs.Limits.{is_comma, takes_expressions, holds}
 use Rattle.ivy_syntax.specs.TreeLimits.{operators, is_short}
@@ -107,7 +108,7 @@ bracket_read s t place e w c count Fits opening no_comma is to_bound of_bound h 
       );
     }
 
--- behind a name that is called
+-- after a name that is called
 abbrev named : State → State
 named s = record s { params = (next s kind.Name).params }
 
@@ -334,7 +335,7 @@ paren_read s place close u e r =
     (closed s k u (operators e) (ExprFits (within s k) e) (token.Sign symbol.CloseParen) close closes_paren
     (expr_inside s k u e r))
 
--- behind an operator, and behind a comma
+-- after an operator, and after a comma
 next_takes : (s : State) (o : Operator) (n p : ℕ) → TakesExpr s → TakesExpr (behind s n (kind.Operation o) p)
 next_takes s o n p at =
     record { takes = at.takes; contract = at.contract; clause = at.clause; enclosed = refl }

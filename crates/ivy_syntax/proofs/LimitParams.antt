@@ -168,7 +168,7 @@ groups_read s o k p c _ _ at leads (more_groups {u = u} {w = w} {groups = groups
     (behind_comma s o k p c u w (params_of groups) (length g.names) comma (groups_read s o k p c u groups at leads h)
     (λ o p c. group_read s o (kind.Sign symbol.Comma) p c w g at refl j))
 
--- ---- all parameters, up to the parenthesis behind them
+-- ---- all parameters, up to the parenthesis after them
 
 pub record AllParams (s : State) (u : List Placed) (groups : List Group) : Type 0 where
   pub operators : ℕ

@@ -6,8 +6,9 @@ use Rattle.std.proofs.lemmas.List.{length-append}
 use Rattle.ivy_syntax.specs.declared.tree.Expr.{Expr}
 use Rattle.ivy_syntax.specs.declared.lexeme.Kind.{Kind}
 use Rattle.ivy_syntax.specs.Tokens.{Placed}
-use Rattle.ivy_syntax.specs.Lexeme.{kind_of}
-use Rattle.ivy_syntax.specs.Grammar.{Level, Reads}
+use Rattle.ivy_syntax.specs.Token.{kind_of}
+use Rattle.ivy_syntax.specs.declared.level.Level.{Level}
+use Rattle.ivy_syntax.specs.Grammar.{Reads}
 use Rattle.ivy_syntax.specs.Limits.{is_contract, is_clause, is_comma, takes_expressions, holds}
 use Rattle.ivy_syntax.specs.TreeLimits.{ExprIsWithin}
 use Rattle.ivy_syntax.proofs.LimitStates.{State, next, passed, NonePasses, state_after, after_both, first_passes}

@@ -8,7 +8,7 @@ use Rattle.grammars.specs.Places.{kinds}
 use Rattle.ivy_syntax.specs.declared.lexeme.Kind.{Kind}
 use Rattle.ivy_syntax.specs.declared.lexeme.Kind.TheVariants as kind
 use Rattle.ivy_syntax.specs.Tokens.{Placed}
-use Rattle.ivy_syntax.specs.Lexeme.{kind_of}
+use Rattle.ivy_syntax.specs.Token.{kind_of}
 use Rattle.ivy_syntax.specs.Limits.{is_contract, is_clause, is_requires, is_of, is_statement, is_name, is_operator}
 use Rattle.ivy_syntax.specs.Limits.{is_comma, opens, closes, leads_param, leads_expression, begins_section}
 use Rattle.ivy_syntax.specs.Limits.{begins_part, takes_expressions, count_since, nowhere, last_of, holds, before}
@@ -92,7 +92,7 @@ abbrev pub NonePasses : State → List Placed → Type 0
 NonePasses s [] = Unit {0}
 NonePasses s (t ∷ ts) = (passed s (kind_of t.0) ≡ None) × NonePasses (next s (kind_of t.0)) ts
 
--- ---- one list behind the other
+-- ---- one list after the other
 
 pub after_both : (s : State) (u w : List Placed) → state_after s (u ++ w) ≡ state_after (state_after s u) w
 after_both s [] w = refl
@@ -160,7 +160,7 @@ passed_is s back h t =
 abbrev tokens_of : List Placed → List Kind
 tokens_of u = map kind_of (kinds u)
 
--- behind so many others
+-- after so many others
 abbrev passes_behind : List Kind → List Kind → ℕ → Option ℕ
 passes_behind back tokens at = passes (reverse (take at tokens) ++ back) (slice_index_or tokens at kind.End)
 

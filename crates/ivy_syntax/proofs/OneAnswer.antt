@@ -15,7 +15,7 @@ use Rattle.ivy_syntax.specs.declared.fault.ParseFault.TheVariants as faults
 use Rattle.ivy_syntax.specs.declared.lexeme.Symbol.TheVariants as symbol
 use Rattle.ivy_syntax.specs.Token.{Token, Sign, End}
 use Rattle.ivy_syntax.specs.Tokens.{Placed, AreTokens}
-use Rattle.ivy_syntax.specs.Lexeme.{kind_of}
+use Rattle.ivy_syntax.specs.Token.{kind_of}
 use Rattle.ivy_syntax.specs.Grammar.{File}
 use Rattle.ivy_syntax.specs.Descent.{file_at}
 use Rattle.ivy_syntax.specs.Limits.{passes, passes_at}

@@ -1,6 +1,6 @@
 -- What is unary comes out as the parser goes: by its first token.
-use Rattle.std.specs.Prelude.{◌≡◌, ◌⊎◌, ℕ, suc, Bool, true, false, List, [], ◌∷◌, ◌++◌, Some, refl}
-use Rattle.std.proofs.Common.{sym, ap, ◌∙◌, subst, arith}
+use Rattle.std.specs.Prelude.{◌≡◌, ◌⊎◌, ℕ, suc, Bool, true, false, List, [], ◌∷◌, ◌++◌, Some, None, refl}
+use Rattle.std.proofs.Common.{sym, ap, ◌∙◌, subst}
 use Rattle.grammars.specs.Part.{Part}
 use Rattle.grammars.specs.Heads.{Nothing}
 use Rattle.grammars.specs.Sequence.{Within}
@@ -22,22 +22,23 @@ use Rattle.ivy_syntax.specs.declared.lexeme.Operator.TheVariants as operator
 use Rattle.ivy_syntax.specs.Token.{Token, Operation, Name, Number, Hex, Quoted, sign}
 use Rattle.ivy_syntax.specs.Token as token
 use Rattle.ivy_syntax.specs.Tokens.{Placed}
-use Rattle.ivy_syntax.specs.Grammar.{Or, Unary, single, enclosed, before, unary, IsSingle}
+use Rattle.ivy_syntax.specs.declared.level.Level.TheVariants.{Or, Unary}
+use Rattle.ivy_syntax.specs.Grammar.{single, enclosed, before, unary, IsSingle}
 use Rattle.ivy_syntax.specs.Grammar.{a_number, a_true, a_false, a_hex, a_text, a_name}
 use Rattle.ivy_syntax.specs.Grammar.{Reads, alone, joined, prefixed, one_token, empty_call, call, members}
 use Rattle.ivy_syntax.specs.Grammar.{parentheses, Members, member, more_members}
-use Rattle.ivy_syntax.specs.Descent.{strength, is_sign, Start, Literal, Named, Paren}
+use Rattle.ivy_syntax.specs.Descent.{is_sign, Start, Literal, Named, Paren}
 use Rattle.ivy_syntax.specs.Descent.{Bracket, Prefix, NoStart, prefix, start, close_paren, close_bracket}
-use Rattle.ivy_syntax.proofs.Pieces.{sign_is, the_sign_is, not_unary}
+use Rattle.ivy_syntax.proofs.Pieces.{sign_is, the_sign_is, not_unary, goes_at}
 use Rattle.ivy_syntax.proofs.Growth.{reads_grow, lists_grow}
-use Rattle.ivy_syntax.proofs.Levels.{Goes_on}
+use Rattle.ivy_syntax.proofs.Levels.{Goes_on, IsAtLeast}
 
 -- ---- lists with commas
 
 abbrev pub is_comma : Placed → Bool
 is_comma = is_sign symbol.Comma
 
--- a part, and more of it behind commas
+-- a part, and more of it after commas
 abbrev pub Listed : {V : Type 0} → Part Placed V → Part Placed (List V)
 Listed X = Separated is_comma X
 
@@ -46,10 +47,8 @@ abbrev pub OrComma : (Placed → Type 0) → Placed → Type 0
 OrComma C t = C t ⊎ (is_comma t ≡ true)
 
 -- what an operator or a call's parenthesis is not
-pub weak : (t : Placed) (s : Symbol) → t ≡ (token.Sign s, t.1) → strength (token.Sign s) ≡ 0 → Goes_on Or t → ⊥
-weak t s is zero_strength more =
-    let same : strength t.0 ≡ 0 = ap (λ t. strength t.0) is ∙ zero_strength in
-    omega (arith, same, more)
+pub weak : (t : Placed) (s : Symbol) → t ≡ (token.Sign s, t.1) → goes_at (token.Sign s) ≡ None → Goes_on Or t → ⊥
+weak t s is none more = subst (IsAtLeast Or) (ap (λ t. goes_at t.0) is ∙ none) more
 
 pub comma_apart : (t : Placed) → is_comma t ≡ true → Goes_on Or t → ⊥
 comma_apart t is more = weak t symbol.Comma (sign_is symbol.Comma t is) refl more
@@ -77,7 +76,7 @@ to_listed depth Z inside _ _ (more_members {u = u} {w = w} {items = items} {e = 
     gathered_more is_comma one_item and_item Z (λ t. Z) u w (token.Sign symbol.Comma, at) items e
     (to_listed depth Z inside u items h) refl (inside w e k)
 
--- ---- the part behind the first token
+-- ---- the part after the first token
 
 abbrev pub Args : Part Placed Expr → Part Placed (List Expr)
 Args O = Perhaps close_paren [] (Listed O)
@@ -91,7 +90,7 @@ opens = is_sign symbol.OpenParen
 abbrev pub Named_part : Part Placed Expr → ℕ → List ℕ → Part Placed Expr
 Named_part O at name = Once opens (λ t. Args O) (called at name) (single at (forms.Name name))
 
--- what stands behind a first token at this place, by what is unary and what is an expression one deeper
+-- what stands after a first token at this place, by what is unary and what is an expression one deeper
 abbrev pub Follows : Part Placed Expr → Part Placed Expr → ℕ → Start → Part Placed Expr
 Follows U O at (Literal form) = Nothing (single at form)
 Follows U O at (Named name) = Named_part O at name
@@ -109,7 +108,7 @@ single_follows U O at _ _ (a_hex bytes) = (refl, refl)
 single_follows U O at _ _ (a_text bytes) = (refl, refl)
 single_follows U O at _ _ (a_name name) = Not (single at (forms.Name name))
 
--- a part behind a first token
+-- a part after a first token
 pub record FirstOf (X : Placed → Part Placed Expr) (u : List Placed) (e : Expr) : Type 0 where
   pub token : Placed
   pub behind : List Placed

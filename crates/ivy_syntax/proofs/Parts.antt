@@ -1,6 +1,6 @@
 -- The declarations of the grammar as parts that are put together, and how they come out.
-use Rattle.std.specs.Prelude.{◌≡◌, ◌⊎◌, ℕ, Bool, true, false, List, [], ◌∷◌, ◌++◌, Some, refl}
-use Rattle.std.proofs.Common.{sym, ap, ◌∙◌, inl, inr, true≢false, arith}
+use Rattle.std.specs.Prelude.{◌≡◌, ◌⊎◌, ℕ, Bool, true, false, List, [], ◌∷◌, ◌++◌, Some, None, refl}
+use Rattle.std.proofs.Common.{sym, ap, ◌∙◌, inl, inr, true≢false, subst}
 use Rattle.std.proofs.lemmas.Option.{none-some, same_Some}
 use mathlib.Core.List.{append_assoc}
 use Rattle.grammars.specs.Text.{next}
@@ -33,8 +33,9 @@ use Rattle.ivy_syntax.specs.declared.lexeme.Symbol.TheVariants as symbol
 use Rattle.ivy_syntax.specs.Token.{Token, letters}
 use Rattle.ivy_syntax.specs.Token as token
 use Rattle.ivy_syntax.specs.Tokens.{Placed}
-use Rattle.ivy_syntax.specs.Grammar.{Or, Reads}
-use Rattle.ivy_syntax.specs.Descent.{Reader, strength, is_sign, is_word, the_sign, the_word, named, listed}
+use Rattle.ivy_syntax.specs.declared.level.Level.TheVariants.{Or}
+use Rattle.ivy_syntax.specs.Grammar.{Reads}
+use Rattle.ivy_syntax.specs.Descent.{Reader, is_sign, is_word, the_sign, the_word, named, listed}
 use Rattle.ivy_syntax.specs.Descent.{group_of}
 use Rattle.ivy_syntax.specs.Descent.{group, params, req_of, amount_by, req_by, requires_by, begins_stmt, verify_by}
 use Rattle.ivy_syntax.specs.Descent.{lock_by}
@@ -42,8 +43,8 @@ use Rattle.ivy_syntax.specs.Descent.{stmt_by, stmts_by, open_paren, open_brace, 
 use Rattle.ivy_syntax.specs.Descent.{clause_body_by, clause_by, clauses_by, contract_of, contract_body_by, contract_by}
 use Rattle.ivy_syntax.specs.Descent.{contracts_by, source_of, file_by}
 use Rattle.ivy_syntax.specs.Descent as descent
-use Rattle.ivy_syntax.proofs.Pieces.{Fine, word_is, the_sign_is, the_word_is, a_sign, a_word, a_name}
-use Rattle.ivy_syntax.proofs.Levels.{Goes_on, Comes, some_expr}
+use Rattle.ivy_syntax.proofs.Pieces.{Fine, goes_at, word_is, the_sign_is, the_word_is, a_sign, a_word, a_name}
+use Rattle.ivy_syntax.proofs.Levels.{Goes_on, IsAtLeast, Comes, some_expr}
 use Rattle.ivy_syntax.proofs.Operands.{is_comma, Listed, OrComma, weak, comma_apart}
 
 -- ---- the parts
@@ -125,9 +126,7 @@ word_no_comma : (k : Keyword) (t : Placed) → is_word k t ≡ true → is_comma
 word_no_comma k t is same = true≢false (sym same ∙ ap (λ t. is_comma t) (word_is k t is))
 
 weak_word : (k : Keyword) (t : Placed) → t ≡ (token.Word k, t.1) → Goes_on Or t → ⊥
-weak_word k t is more =
-    let same : strength t.0 ≡ 0 = ap (λ t. strength t.0) is in
-    omega (arith, same, more)
+weak_word k t is more = subst (IsAtLeast Or) (ap (λ t. goes_at t.0) is) more
 
 -- ---- parameters
 
@@ -202,12 +201,12 @@ brace_apart t e is (inl (inr more)) = sign_apart symbol.OpenBrace symbol.Comma r
 brace_apart t e is (inr more) =
     true≢false (sym more ∙ ap (λ t. is_word keyword.Requires t) (the_sign_is symbol.OpenBrace t e is))
 
-weak_stmt : (t : Token) → begins_stmt t ≡ true → strength t ≡ 0
+weak_stmt : (t : Token) → begins_stmt t ≡ true → goes_at t ≡ None
 weak_stmt (token.Word k) is = refl
 weak_stmt _ is = absurd (true≢false (sym is))
 
 stmt_apart : (t : Placed) → stmt_begins t ≡ true → Goes_on Or t → ⊥
-stmt_apart t is more = let same = weak_stmt t.0 is in omega (arith, same, more)
+stmt_apart t is more = subst (IsAtLeast Or) (weak_stmt t.0 is) more
 
 end_apart : (t e : Placed) → close_brace t ≡ Some e → OrStmt t → ⊥
 end_apart t e is (inl more) = weak t symbol.CloseBrace (the_sign_is symbol.CloseBrace t e is) refl more

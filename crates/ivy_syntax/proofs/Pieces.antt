@@ -1,8 +1,7 @@
 -- Single tokens: which of them stand for what, and that each can be written.
-use Rattle.std.specs.Prelude.{◌≡◌, ℕ, ◌+◌, ◌≤◌, true, decimal, nat_eq, List, [], ◌∷◌, Option}
+use Rattle.std.specs.Prelude.{◌≡◌, ℕ, ◌<◌, true, false, decimal, List, [], ◌∷◌, Option, option_map}
 use Rattle.std.specs.Prelude.{Some, None, refl}
-use Rattle.std.proofs.Common.{sym, ap, subst, true≢false, arith, rules}
-use Rattle.std.proofs.lemmas.Bool.{eqb-true}
+use Rattle.std.proofs.Common.{sym, ap, ◌∙◌, true≢false, arith}
 use Rattle.std.proofs.lemmas.Option.{none-some, same_Some}
 use Rattle.grammars.specs.Heads.{Example}
 use Rattle.grammars.specs.Examples.{chosen_is, one_chosen}
@@ -17,10 +16,13 @@ use Rattle.ivy_syntax.specs.declared.lexeme.Operator.TheVariants as operator
 use Rattle.ivy_syntax.specs.Token.{Token, Operation, Name, Number, Hex, Quoted, Spells, letters, sign, IsName, mark}
 use Rattle.ivy_syntax.specs.Token as token
 use Rattle.ivy_syntax.specs.Tokens.{Placed}
-use Rattle.ivy_syntax.specs.Grammar.{Level, Or, And, Comparison, Shift, Sum, Term, Unary, binary, below, word}
+use Rattle.ivy_syntax.specs.declared.level.Level.{Level}
+use Rattle.ivy_syntax.specs.declared.level.Level.TheVariants.{Or, And, Comparison, Shift, Sum, Term, Unary}
+use Rattle.ivy_syntax.specs.Grammar.{binary, below, word}
 use Rattle.ivy_syntax.specs.Descent.{is_symbol, is_keyword, sign_in, word_in, is_sign, is_word, the_sign, the_word}
 use Rattle.ivy_syntax.specs.Descent.{named}
-use Rattle.ivy_syntax.specs.Descent.{name_in, operator_rank, strength, joins, operation}
+use Rattle.ivy_syntax.specs.Descent.{name_in, is_level, is_of_level, joins, op_of}
+use Rattle.ivy_syntax.specs.Descent as descent
 use Rattle.ivy_syntax.specs.Grammar.{rank}
 
 -- a token that can be written
@@ -127,68 +129,67 @@ zero_fine = (decimal 0, (refl, omega arith))
 
 -- ---- operators between operands
 
-low_operator : (o : Operator) → operator_rank o ≤ 6
-low_operator operator.Or = omega arith
-low_operator _ = omega arith
+the_level : (level found : Level) → is_level level found ≡ true → found ≡ level
+the_level Or Or is = refl
+the_level And And is = refl
+the_level Comparison Comparison is = refl
+the_level Shift Shift is = refl
+the_level Sum Sum is = refl
+the_level Term Term is = refl
+the_level Unary Unary is = refl
+the_level _ _ is = absurd (true≢false (sym is))
 
-pub next_rank : (level : Level) → rank level ≤ 6 → rank (below level) ≡ rank level + 1
-next_rank Or low = refl
-next_rank Unary low = absurd (omega (arith, low))
-next_rank _ low = refl
+same_level : (level : Level) → is_level level level ≡ true
+same_level Or = refl
+same_level _ = refl
 
-some_rank : (level : Level) → 1 ≤ rank level
-some_rank Or = omega arith
-some_rank _ = omega arith
+-- all levels but that of what is unary have operators between operands
+abbrev pub HasOperators : Level → Type 0
+HasOperators Unary = ⊥
+HasOperators _ = Unit {0}
 
-operator_level : (o : Operator) (level : Level) → operator_rank o ≡ rank level
-    → binary o ≡ Some (level, operation (Operation o))
-operator_level operator.Or Or is = refl
-operator_level operator.And And is = refl
-operator_level operator.Equal Comparison is = refl
-operator_level operator.NotEqual Comparison is = refl
-operator_level operator.Less Comparison is = refl
-operator_level operator.LessEqual Comparison is = refl
-operator_level operator.Greater Comparison is = refl
-operator_level operator.GreaterEqual Comparison is = refl
-operator_level operator.ShiftLeft Shift is = refl
-operator_level operator.ShiftRight Shift is = refl
-operator_level operator.Plus Sum is = refl
-operator_level operator.Minus Sum is = refl
-operator_level operator.Star Term is = refl
-operator_level operator.Slash Term is = refl
-operator_level operator.Percent Term is = refl
-operator_level operator.Not level is = let some = some_rank level in absurd (omega (arith, is, some))
-operator_level _ _ is = absurd (omega (arith, is))
+-- the next level binds more
+pub binds_more : (level : Level) → HasOperators level → rank level < rank (below level)
+binds_more Unary has = absurd has
+binds_more Or has = omega arith
+binds_more _ has = omega arith
 
--- the level and the operator of the tree
-pub binary_is : (o : Operator) (level : Level) (op : Op) → binary o ≡ Some (level, op)
-    → (operator_rank o ≡ rank level) × (operation (Operation o) ≡ op)
-binary_is operator.Not level op is = absurd (none-some (level, op) is)
-binary_is o level op is = (ap (λ p. rank p.0) (same_Some _ (level, op) is), ap (λ p. p.1) (same_Some _ (level, op) is))
+by_option : (level : Level) (found : Option (Level × Op)) → is_of_level level found ≡ true
+    → found ≡ Some (level, op_of found)
+by_option level None is = absurd (true≢false (sym is))
+by_option level (Some found) is = ap (λ (l : Level). Some (l, found.1)) (the_level level found.0 is)
 
--- what is unary has no operators of its own between operands
-pub not_unary : (o : Operator) (op : Op) → binary o ≡ Some (Unary, op) → ⊥
-not_unary o op is = let low = low_operator o in let same = (binary_is o Unary op is).0 in omega (arith, low, same)
-
-joining : (level : Level) → rank level ≤ 6 → (t : Token) (at : ℕ) → strength t ≡ rank level
-    → (o : Operator) × (t ≡ Operation o) × (binary o ≡ Some (level, operation t))
-joining level low (Operation o) at is = (o, refl, operator_level o level is)
-joining level low (token.Sign symbol.OpenParen) at is = absurd (omega (arith, low, is))
-joining level low _ at is = let some = some_rank level in absurd (omega (arith, is, some))
-
-pub joins_is : (level : Level) (t : Placed) → joins level t ≡ true → strength t.0 ≡ rank level
-joins_is level t is = eqb-true (strength t.0) (rank level) is
+joining : (level : Level) (t : Token) → is_of_level level (descent.joining t) ≡ true
+    → (o : Operator) × (t ≡ Operation o) × (binary o ≡ Some (level, op_of (descent.joining t)))
+joining level (Operation o) is = (o, refl, by_option level (binary o) is)
+joining level (token.Word k) is = absurd (true≢false (sym is))
+joining level _ is = absurd (true≢false (sym is))
 
 -- a token that joins operands of a level
-pub joining_is : (level : Level) → rank level ≤ 6 → (t : Placed) → joins level t ≡ true
-    → (o : Operator) × (t ≡ (Operation o, t.1)) × (binary o ≡ Some (level, operation t.0))
-joining_is level low t is =
-    let found = joining level low t.0 t.1 (joins_is level t is) in (found.0, ap (λ k. (k, t.1)) found.1, found.2)
+pub joining_is : (level : Level) (t : Placed) → joins level t ≡ true
+    → (o : Operator) × (t ≡ (Operation o, t.1)) × (binary o ≡ Some (level, op_of (descent.joining t.0)))
+joining_is level t is =
+    let found = joining level t.0 is in (found.0, ap (λ k. (k, t.1)) found.1, found.2)
 
 pub is_joining : (level : Level) (o : Operator) (op : Op) (at : ℕ) → binary o ≡ Some (level, op)
     → joins level (Operation o, at) ≡ true
-is_joining level o op at is =
-    subst (λ n. nat_eq n (rank level) ≡ true) (sym (binary_is o level op is).0) (same_number (rank level))
-  where
-    same_number : (n : ℕ) → nat_eq n n ≡ true
-    same_number n = search rules
+is_joining level o op at is = ap (is_of_level level) is ∙ same_level level
+
+none_unary : (o : Operator) → joins Unary (Operation o, 0) ≡ false
+none_unary operator.Or = refl
+none_unary _ = refl
+
+-- what is unary has no operators of its own between operands
+pub not_unary : (o : Operator) (op : Op) → binary o ≡ Some (Unary, op) → ⊥
+not_unary o op is = true≢false (sym (is_joining Unary o op 0 is) ∙ none_unary o)
+
+-- the level of which a token goes on an expression: that of an operator, and the last for the parenthesis of a call
+abbrev pub goes_at : Token → Option Level
+goes_at (Operation o) = option_map (λ j. j.0) (binary o)
+goes_at (token.Sign symbol.OpenParen) = Some Unary
+goes_at _ = None
+
+pub goes_of : (level : Level) (t : Placed) → joins level t ≡ true → goes_at t.0 ≡ Some level
+goes_of level t is =
+    let found = joining_is level t is in
+    ap (λ (t : Placed). goes_at t.0) found.1 ∙ ap (option_map (λ j. j.0)) found.2

@@ -11,7 +11,9 @@ use Rattle.ivy_syntax.specs.declared.tree.Form.TheOpen.{Form-F}
 use Rattle.ivy_syntax.specs.declared.tree.Form.TheVariants as forms
 use Rattle.ivy_syntax.specs.declared.lexeme.Symbol.TheVariants as symbol
 use Rattle.ivy_syntax.specs.Token.{Token, Sign, Operation, Name}
-use Rattle.ivy_syntax.specs.Grammar.{Level, Or, Unary, below}
+use Rattle.ivy_syntax.specs.declared.level.Level.{Level}
+use Rattle.ivy_syntax.specs.declared.level.Level.TheVariants.{Or, Unary}
+use Rattle.ivy_syntax.specs.Grammar.{below}
 use Rattle.ivy_syntax.specs.Shown.{separated, operator_of, level_of, left_level, is_enclosed, enclosed_if}
 use Rattle.ivy_syntax.specs.Shown.{tokens_at}
 use Rattle.ivy_syntax.specs.Spaced.{spaced, sign_if}
@@ -32,7 +34,7 @@ one_more f (y ∷ xs) x =
     separated_more f (y ∷ xs) x tt
     ∙ ap (λ more. separated (map f (y ∷ xs)) ++ (sign_if more symbol.Comma ++ f x)) (sym (some (length xs)))
 
--- One part more is added, behind a comma if others stand before.
+-- One part more is added, after a comma if others stand before.
 pub next_separated : {X : Type 0} (f : X → List Token) (xs : List X) (i : ℕ) (x : X) (old text between new : List ℕ)
     → i < length xs
     → x ≡ get_or xs i x

@@ -1,16 +1,14 @@
 -- A token with which a text begins is found, or a longer one.
-use Rattle.std.proofs.Common.{◌≡◌, ◌≤◌, ◌<◌, ◌+◌, ◌-◌, ◌*◌, ◌/◌, ◌^◌, ◌&&◌, ◌==◌, ℕ, suc, true, false}
-use Rattle.std.proofs.Common.{List, [], ◌∷◌, ◌++◌, inl, inr, length, take, slice_index, refl, ap, sym, ◌∙◌}
+use Rattle.std.proofs.Common.{◌≡◌, ◌≤◌, ◌<◌, ◌+◌, ◌*◌, ◌/◌, ◌^◌, ◌&&◌, ◌==◌, ℕ, suc, true, false}
+use Rattle.std.proofs.Common.{List, [], ◌∷◌, ◌++◌, length, take, slice_index, refl, ap, sym, ◌∙◌}
 use Rattle.std.proofs.Common.{subst}
-use Rattle.std.proofs.Common.{arith, Option, Some, None, leb, get_or}
-use Rattle.std.proofs.lemmas.Bool.{le-leb, cases_eq, and_right, eq-eqb}
+use Rattle.std.proofs.Common.{arith, Option, Some, None}
+use Rattle.std.proofs.lemmas.Bool.{and_right, eq-eqb}
 use Rattle.std.proofs.lemmas.List.{length-append, take_at, get_or_at, append_assoc}
-use Rattle.std.proofs.lemmas.Fmt.{digits_value-decimal, digits_decimal, first_decimal}
-use Rattle.std.proofs.lemmas.Fmt.{decimal_nonempty, decimal_digit}
+use Rattle.std.proofs.lemmas.Fmt.{decimal_nonempty}
 use Rattle.std.specs.Prelude.{codes, decimal, option_map}
 use Rattle.std.specs.List.{list_all, prefix_len}
 use Rattle.std.specs.Char.{is_ascii_digit, is_ascii_hexdigit}
-use Rattle.std.specs.Str.Parse.{digits_value}
 use Rattle.std.proofs.lemmas.Bool.{cond-true, cond-false, and_parts, and_from}
 use Rattle.std.proofs.lemmas.Bool.Decides.{nat_tests}
 use Rattle.ivy_syntax.specs.declared.lexeme.Keyword.{Keyword}
@@ -25,12 +23,14 @@ use Rattle.ivy_syntax.specs.Token.{letters, sign, mark, begins_name, goes_on, is
 use Rattle.ivy_syntax.specs.Tokens.{is_blank, EndsBefore, Begins}
 use Rattle.ivy_syntax.specs.Lexeme.{value_of, token_of}
 use Rattle.ivy_syntax.specs.Cutting.{keyword_of, word_kind, word_at}
-use Rattle.ivy_syntax.specs.Cutting.{is_decimal, within_most, number_of, number_at, hex_at, quoted_at, pair_of}
+use Rattle.wire.specs.Decimal.{decimal_within, decimal_again, digits_written}
+use Rattle.wire.specs.Spelling.{greatest}
+use Rattle.ivy_syntax.specs.Cutting.{number_at, hex_at, quoted_at, pair_of}
 use Rattle.ivy_syntax.specs.Cutting.{symbol_of}
 use Rattle.ivy_syntax.specs.Cutting.{operator_of, single_cut, sign_cut, sign_at, token_at}
 use Rattle.ivy_syntax.proofs.Runs.{StopsAt, prefix_no, run_over, run_ends}
 use Rattle.ivy_syntax.proofs.Fronts.{name_goes_on, digit_goes_on, keyword_is, keyword_found, IsWordText, letters_are}
-use Rattle.ivy_syntax.proofs.Fronts.{numerals, quoted_value, at_index, pair_fits}
+use Rattle.ivy_syntax.proofs.Fronts.{quoted_value, at_index, pair_fits}
 
 abbrev pub BlankFollows : List ℕ → Type 0
 BlankFollows [] = ⊥
@@ -124,29 +124,8 @@ digit_front b more e h =
     let no_hex : (b == 48 && slice_index more 0 == 120) ≡ false = and_right _ _ h in
     cond-false _ _ _ no_name ∙ cond-false _ _ _ no_hex ∙ cond-true _ _ _ e
 
-starts_decimal : (digits : List ℕ) (n : ℕ) → 0 < n → n < 2 ^ 63 → digits ≡ decimal n → is_decimal digits ≡ true
-starts_decimal [] n p small e =
-    absurd (omega (arith, ap length e, decimal_nonempty n (omega arith)))
-starts_decimal (d ∷ ds) n p small e =
-    let first : 48 < d = subst (λ ds. 48 < get_or ds 0 0) (sym e) (first_decimal n p (omega arith)) in
-    let all : list_all is_ascii_digit (d ∷ ds) ≡ true
-    = subst (λ ds. list_all is_ascii_digit ds ≡ true) (sym e) (digits_decimal numerals n (omega arith)) in
-    grind (arith, nat_tests)
-
 pub decimal_all : (n : ℕ) → n < 2 ^ 63 → list_all is_ascii_digit (decimal n) ≡ true
-decimal_all n small = digits_decimal numerals n (omega arith)
-
-number_of_decimal : (n : ℕ) → n < 2 ^ 63 → number_of (decimal n) ≡ Some n
-unfolding number_of
-number_of_decimal n small =
-    let value : digits_value 10 (decimal n) ≡ n = digits_value-decimal numerals n (omega arith) in
-    let most : leb n (2 ^ 63 - 1) ≡ true = le-leb n (2 ^ 63 - 1) (omega arith) in
-    let is : is_decimal (decimal n) ≡ true
-    = elim (cases_eq n 0) [
-      | inl e ↦ ap is_decimal (decimal_digit n (omega arith)) ∙ (grind (arith, nat_tests))
-      | inr f ↦ starts_decimal (decimal n) n (omega arith) small refl
-    ] in
-    cond-true _ _ _ is ∙ ap within_most value ∙ cond-true _ _ _ most
+decimal_all n small = digits_written n (omega arith)
 
 number_reach : (digits rest : List ℕ) (n : ℕ) → digits ≡ decimal n → n < 2 ^ 63 → StopsAt goes_on rest
     → Reaches (digits ++ rest) (Number n) digits rest
@@ -155,15 +134,15 @@ number_reach [] rest n e small h = absurd (omega (arith, ap length e, decimal_no
 number_reach (b ∷ bytes) rest n e small h =
     let whole : List ℕ = (b ∷ bytes) ++ rest in
     let all : list_all is_ascii_digit (b ∷ bytes) ≡ true
-    = subst (λ ds. list_all is_ascii_digit ds ≡ true) (sym e) (digits_decimal numerals n (omega arith)) in
+    = subst (λ ds. list_all is_ascii_digit ds ≡ true) (sym e) (decimal_all n small) in
     let parts = and_parts (is_ascii_digit b) (list_all is_ascii_digit bytes) all in
     let word : list_all goes_on (b ∷ bytes) ≡ true = digits_go_on (b ∷ bytes) all in
     let len : prefix_len goes_on whole ≡ length (b ∷ bytes)
     = run_over goes_on (b ∷ bytes) rest word ∙ omega (arith, run_ends goes_on rest h) in
     let cut : take (prefix_len goes_on whole) whole ≡ b ∷ bytes
     = ap (λ n. take n whole) len ∙ take_at (b ∷ bytes) rest (length (b ∷ bytes)) refl in
-    let read : number_of (take (prefix_len goes_on whole) whole) ≡ Some n
-    = ap number_of cut ∙ ap number_of e ∙ number_of_decimal n small in
+    let read : decimal_within greatest (take (prefix_len goes_on whole) whole) ≡ Some n
+    = ap (decimal_within greatest) (cut ∙ e) ∙ decimal_again greatest n (omega arith) (omega arith) in
     record {
       kind = kind.Number n;
       len = prefix_len goes_on whole;

@@ -1,22 +1,19 @@
 -- The cuts of a text are its tokens, and it has no others.
-use Rattle.std.proofs.Common.{◌≡◌, ◌≤◌, ◌<◌, ◌+◌, ◌-◌, ◌==◌, ℕ, zero, suc, true, false}
+use Rattle.std.proofs.Common.{◌≡◌, ◌≤◌, ◌<◌, ◌+◌, ◌==◌, ℕ, zero, suc, true, false}
 use Rattle.std.proofs.Common.{List, [], ◌∷◌, inl, inr, length, take, drop, slice_index, cond, refl, ap, sym, ◌∙◌}
-use Rattle.std.proofs.Common.{subst, arith, Some, None, map}
+use Rattle.std.proofs.Common.{subst, arith, Some, None}
 use Rattle.std.proofs.lemmas.Bool.{cases_Bool, cond-true, cond-false, or_cases, eqb-true, eqb-false, ne_eqb, eq-eqb}
 use Rattle.std.proofs.lemmas.Bool.{cases_eq, cond_both}
 use Rattle.std.proofs.lemmas.Bool.Decides.{nat_tests}
-use Rattle.std.proofs.lemmas.List.{length-take-le, length-drop, drop-drop, take_at}
+use Rattle.std.proofs.lemmas.List.{length-take-le, length-drop, take_at}
 use Rattle.ivy_syntax.specs.declared.lexeme.Kind.{Kind}
-use Rattle.ivy_syntax.specs.declared.lexeme.Kind.TheVariants as kind
 use Rattle.ivy_syntax.specs.declared.lexeme.Front.TheVariants as front
-use Rattle.std.specs.List.{AllByRecursion}
-use Rattle.ivy_syntax.specs.Token.{Operation, Spells}
-use Rattle.ivy_syntax.specs.Lexeme.{bytes_of, IsSpelled, LiesIn}
+use Rattle.ivy_syntax.specs.Token.{Operation, Bad}
 use Rattle.ivy_syntax.specs.declared.lexeme.Operator.TheVariants as operator
 use Rattle.ivy_syntax.specs.Tokens.{NoToken, is_blank, EachHasOneReading}
 use Rattle.ivy_syntax.specs.Tokens.{NoComment, Placed, AreTokens, ends, passes_blank, passes_comment, takes, stops}
-use Rattle.ivy_syntax.specs.Lexeme.{token_of, placed}
-use Rattle.ivy_syntax.specs.Cutting.{Cut, token_at, comment_len, front_of_cut, front_at, TakesWithin, lexeme, point}
+use Rattle.ivy_syntax.specs.Lexeme.{token_of}
+use Rattle.ivy_syntax.specs.Cutting.{Cut, token_at, comment_len, front_of_cut, front_at, TakesWithin}
 use Rattle.ivy_syntax.specs.Cutting.{cuts}
 use Rattle.ivy_syntax.specs.Cutting.{sign_at, pair_of, symbol_of, operator_of}
 use Rattle.ivy_syntax.proofs.Cuts.{cuts_blank, cuts_token, cuts_wrong, cuts_end}
@@ -106,105 +103,83 @@ front_within (b ∷ rest) =
 
 -- ---- the cuts are tokens
 
-cut_bytes : (text rest : List ℕ) (at len : ℕ) (k : Kind) → drop at text ≡ rest
-    → placed text (lexeme k at len) ≡ (token_of k (take len rest), at)
-cut_bytes text rest at len k e =
-    let less : at + len - at ≡ len = omega arith in
-    (λ i. (token_of k (take (less i) (e i)), at))
-
-further : (text rest : List ℕ) (at len : ℕ) → drop at text ≡ rest → drop (at + len) text ≡ drop len rest
-further text rest at len e = sym (drop-drop len at text) ∙ ap (λ r. drop len r) e
-
-AreRead : List ℕ → ℕ → List ℕ → Type 0
-AreRead text at rest = AreTokens at rest (map (placed text) (cuts at rest))
+AreRead : ℕ → List ℕ → Type 0
+AreRead at rest = AreTokens at rest (cuts at rest)
 
 -- so many bytes at most
-AllRead : List ℕ → ℕ → Type 0
-AllRead text k = (at : ℕ) (rest : List ℕ) → drop at text ≡ rest → length rest ≤ k → AreRead text at rest
+AllRead : ℕ → Type 0
+AllRead k = (at : ℕ) (rest : List ℕ) → length rest ≤ k → AreRead at rest
 
-passed_read : (text : List ℕ) (k at len b : ℕ) (rest : List ℕ) → drop at text ≡ b ∷ rest → length rest ≤ k → 0 < len
-    → len ≤ length (b ∷ rest) → AllRead text k → AreRead text (at + len) (drop len (b ∷ rest))
+passed_read : (k at len b : ℕ) (rest : List ℕ) → length rest ≤ k → 0 < len → len ≤ length (b ∷ rest) → AllRead k
+    → AreRead (at + len) (drop len (b ∷ rest))
 unfolding AllRead
-passed_read text k at len b rest e short p within all =
-    all (at + len) (drop len (b ∷ rest)) (further text (b ∷ rest) at len e)
-    (omega (arith, length-drop len (b ∷ rest)))
+passed_read k at len b rest short p within all =
+    all (at + len) (drop len (b ∷ rest)) (omega (arith, length-drop len (b ∷ rest)))
 
-blank_read : (text : List ℕ) (k at b : ℕ) (rest : List ℕ) → drop at text ≡ b ∷ rest → length rest ≤ k → AllRead text k
-    → is_blank b ≡ true → AreRead text at (b ∷ rest)
+blank_read : (k at b : ℕ) (rest : List ℕ) → length rest ≤ k → AllRead k → is_blank b ≡ true → AreRead at (b ∷ rest)
 unfolding AreRead
-blank_read text k at b rest e short all blank =
+blank_read k at b rest short all blank =
     let same : cuts at (b ∷ rest) ≡ cuts (at + 1) rest
     = cuts_blank at 1 (b ∷ rest) (front_blank b rest blank) (omega arith) (omega arith) in
-    let more : AreTokens (at + 1) rest (map (placed text) (cuts (at + 1) rest))
-    = passed_read text k at 1 b rest e short (omega arith) (omega arith) all in
-    subst (λ ls. AreTokens at (b ∷ rest) (map (placed text) ls)) (sym same)
-    (passes_blank at b rest _ blank more)
+    let more : AreTokens (at + 1) rest (cuts (at + 1) rest)
+    = passed_read k at 1 b rest short (omega arith) (omega arith) all in
+    subst (AreTokens at (b ∷ rest)) (sym same) (passes_blank at b rest _ blank more)
 
-comment_read : (text : List ℕ) (k at b : ℕ) (rest : List ℕ) → drop at text ≡ b ∷ rest → length rest ≤ k
-    → AllRead text k → is_blank b ≡ false → 0 < comment_len (b ∷ rest) → AreRead text at (b ∷ rest)
+comment_read : (k at b : ℕ) (rest : List ℕ) → length rest ≤ k → AllRead k → is_blank b ≡ false
+    → 0 < comment_len (b ∷ rest) → AreRead at (b ∷ rest)
 unfolding AreRead
-comment_read text k at b rest e short all solid p =
+comment_read k at b rest short all solid p =
     let n : ℕ = comment_len (b ∷ rest) in
     let comment : Comment n (b ∷ rest) = comment_sound (b ∷ rest) p in
     let len : length (take n (b ∷ rest)) ≡ n = length-take-le n (b ∷ rest) comment.within in
     let same : cuts at (b ∷ rest) ≡ cuts (at + n) (drop n (b ∷ rest))
     = cuts_blank at n (b ∷ rest) (front_comment b n rest solid refl p) p comment.within in
-    let more : AreTokens (at + n) (drop n (b ∷ rest)) (map (placed text) (cuts (at + n) (drop n (b ∷ rest))))
-    = passed_read text k at n b rest e short p comment.within all in
-    subst (λ ls. AreTokens at (b ∷ rest) (map (placed text) ls)) (sym same)
+    let more : AreTokens (at + n) (drop n (b ∷ rest)) (cuts (at + n) (drop n (b ∷ rest)))
+    = passed_read k at n b rest short p comment.within all in
+    subst (AreTokens at (b ∷ rest)) (sym same)
     (passes_comment at (b ∷ rest) _ _ _ comment.begins
-    (subst (λ m. AreTokens (at + m) (drop n (b ∷ rest)) (map (placed text) (cuts (at + n) (drop n (b ∷ rest)))))
-    (sym len) more))
+    (subst (λ m. AreTokens (at + m) (drop n (b ∷ rest)) (cuts (at + n) (drop n (b ∷ rest)))) (sym len) more))
 
-token_read : (text : List ℕ) (k at b : ℕ) (rest : List ℕ) (found : Cut) → drop at text ≡ b ∷ rest → length rest ≤ k
-    → AllRead text k → is_blank b ≡ false → comment_len (b ∷ rest) ≡ 0 → token_at (b ∷ rest) ≡ found
-    → AreRead text at (b ∷ rest)
+token_read : (k at b : ℕ) (rest : List ℕ) (found : Cut) → length rest ≤ k → AllRead k → is_blank b ≡ false
+    → comment_len (b ∷ rest) ≡ 0 → token_at (b ∷ rest) ≡ found → AreRead at (b ∷ rest)
 unfolding AreRead
-token_read text k at b rest None e short all solid none found =
-    let same : cuts at (b ∷ rest) ≡ point kind.Bad at ∷ []
+token_read k at b rest None short all solid none found =
+    let same : cuts at (b ∷ rest) ≡ (Bad, at) ∷ []
     = cuts_wrong at (b ∷ rest) (front_token b rest solid none ∙ ap front_of_cut found) (omega arith) in
-    subst (λ ls. AreTokens at (b ∷ rest) (map (placed text) ls)) (sym same)
-    (stops at b rest solid (none_at (b ∷ rest) found))
-token_read text k at b rest (Some cut) e short all solid none found =
+    subst (AreTokens at (b ∷ rest)) (sym same) (stops at b rest solid (none_at (b ∷ rest) found))
+token_read k at b rest (Some cut) short all solid none found =
     let n : ℕ = cut.1 in
     let sound : Sound cut.0 n (b ∷ rest) = found_sound (b ∷ rest) cut.0 n found in
     let len : length (take n (b ∷ rest)) ≡ n = length-take-le n (b ∷ rest) sound.within in
-    let same : cuts at (b ∷ rest) ≡ lexeme cut.0 at n ∷ cuts (at + n) (drop n (b ∷ rest))
+    let same : cuts at (b ∷ rest) ≡ (token_of cut.0 (take n (b ∷ rest)), at) ∷ cuts (at + n) (drop n (b ∷ rest))
     = cuts_token at n cut.0 (b ∷ rest) (front_token b rest solid none ∙ ap front_of_cut found)
     sound.some sound.within in
-    let more : AreTokens (at + n) (drop n (b ∷ rest)) (map (placed text) (cuts (at + n) (drop n (b ∷ rest))))
-    = passed_read text k at n b rest e short sound.some sound.within all in
-    let taken : AreTokens at (b ∷ rest)
-    ((token_of cut.0 (take n (b ∷ rest)), at) ∷ map (placed text) (cuts (at + n) (drop n (b ∷ rest))))
-    = takes at (b ∷ rest) _ _ _ _ (no_comment (b ∷ rest) none) (longest_at (b ∷ rest) cut.0 n found)
-    (subst (λ m. AreTokens (at + m) (drop n (b ∷ rest)) (map (placed text) (cuts (at + n) (drop n (b ∷ rest)))))
-    (sym len) more) in
-    subst (λ ls. AreTokens at (b ∷ rest) (map (placed text) ls)) (sym same)
-    (subst (λ p. AreTokens at (b ∷ rest) (p ∷ map (placed text) (cuts (at + n) (drop n (b ∷ rest)))))
-    (sym (cut_bytes text (b ∷ rest) at n cut.0 e)) taken)
+    let more : AreTokens (at + n) (drop n (b ∷ rest)) (cuts (at + n) (drop n (b ∷ rest)))
+    = passed_read k at n b rest short sound.some sound.within all in
+    subst (AreTokens at (b ∷ rest)) (sym same)
+    (takes at (b ∷ rest) _ _ _ _ (no_comment (b ∷ rest) none) (longest_at (b ∷ rest) cut.0 n found)
+    (subst (λ m. AreTokens (at + m) (drop n (b ∷ rest)) (cuts (at + n) (drop n (b ∷ rest)))) (sym len) more))
 
-solid_read : (text : List ℕ) (k at b : ℕ) (rest : List ℕ) → drop at text ≡ b ∷ rest → length rest ≤ k
-    → AllRead text k → is_blank b ≡ false → AreRead text at (b ∷ rest)
-solid_read text k at b rest e short all solid =
+solid_read : (k at b : ℕ) (rest : List ℕ) → length rest ≤ k → AllRead k → is_blank b ≡ false → AreRead at (b ∷ rest)
+solid_read k at b rest short all solid =
     elim (cases_eq (comment_len (b ∷ rest)) 0) [
-      | inl none ↦ token_read text k at b rest (token_at (b ∷ rest)) e short all solid none refl
-      | inr some ↦ comment_read text k at b rest e short all solid (omega arith)
+      | inl none ↦ token_read k at b rest (token_at (b ∷ rest)) short all solid none refl
+      | inr some ↦ comment_read k at b rest short all solid (omega arith)
     ]
 
-all_read : (text : List ℕ) (k : ℕ) → AllRead text k
+all_read : (k : ℕ) → AllRead k
 unfolding AllRead AreRead
-all_read text k at [] e short =
-    subst (λ ls. AreTokens at [] (map (placed text) ls)) (sym (cuts_end at [] refl)) (ends at)
-all_read text zero at (b ∷ rest) e short = absurd (omega arith)
-all_read text (suc k) at (b ∷ rest) e short =
+all_read k at [] short = subst (AreTokens at []) (sym (cuts_end at [] refl)) (ends at)
+all_read zero at (b ∷ rest) short = absurd (omega arith)
+all_read (suc k) at (b ∷ rest) short =
     elim (cases_Bool (is_blank b)) [
-      | inl blank ↦ blank_read text k at b rest e (omega arith) (all_read text k) blank
-      | inr solid ↦ solid_read text k at b rest e (omega arith) (all_read text k) solid
+      | inl blank ↦ blank_read k at b rest (omega arith) (all_read k) blank
+      | inr solid ↦ solid_read k at b rest (omega arith) (all_read k) solid
     ]
 
-pub cuts_read : (text : List ℕ) → AreTokens 0 text (map (placed text) (cuts 0 text))
+pub cuts_read : (text : List ℕ) → AreTokens 0 text (cuts 0 text)
 unfolding AllRead AreRead
-cuts_read text = all_read text (length text) 0 text refl (omega arith)
+cuts_read text = all_read (length text) 0 text (omega arith)
 
 -- ---- and there are no others
 
@@ -256,130 +231,36 @@ no_token_no_comment (b ∷ more) h comment rest c =
     let two : 2 ≤ length comment = is.1 in
     slash_token b more (first_comment (b ∷ more) (omega arith)) (no_token_none (b ∷ more) h)
 
-only_cuts : (text : List ℕ) (at : ℕ) (rest : List ℕ) (tokens : List Placed) → AreTokens at rest tokens
-    → drop at text ≡ rest → tokens ≡ map (placed text) (cuts at rest)
-only_cuts text _ _ _ (ends at) e = sym (ap (map (placed text)) (cuts_end at [] refl))
-only_cuts text _ _ _ (passes_blank at b more tokens blank h) e =
+only_cuts : (at : ℕ) (rest : List ℕ) (tokens : List Placed) → AreTokens at rest tokens → tokens ≡ cuts at rest
+only_cuts _ _ _ (ends at) = sym (cuts_end at [] refl)
+only_cuts _ _ _ (passes_blank at b more tokens blank h) =
     let same : cuts at (b ∷ more) ≡ cuts (at + 1) more
     = cuts_blank at 1 (b ∷ more) (front_blank b more blank) (omega arith) (omega arith) in
-    only_cuts text (at + 1) more tokens h (further text (b ∷ more) at 1 e) ∙ sym (ap (map (placed text)) same)
-only_cuts text _ _ _ (passes_comment at here bytes more tokens begins h) e =
+    only_cuts (at + 1) more tokens h ∙ sym same
+only_cuts _ _ _ (passes_comment at here bytes more tokens begins h) =
     let is = comment_found here bytes more begins in
     let len : comment_len here ≡ length bytes = is.0 in
     let two : 2 ≤ length bytes = is.1 in
     let within : length bytes ≤ length here = omega (arith, len, (comment_sound here (omega arith)).within) in
     let same : cuts at here ≡ cuts (at + length bytes) (drop (length bytes) here)
     = cuts_blank at (length bytes) here (comment_front here (length bytes) len (omega arith)) (omega arith) within in
-    only_cuts text (at + length bytes) more tokens h (further text here at (length bytes) e ∙ is.2)
-    ∙ ap (λ r. map (placed text) (cuts (at + length bytes) r)) (sym is.2) ∙ sym (ap (map (placed text)) same)
-only_cuts text _ _ _ (takes at here first bytes more others none longest h) e =
+    only_cuts (at + length bytes) more tokens h ∙ ap (λ r. cuts (at + length bytes) r) (sym is.2) ∙ sym same
+only_cuts _ _ _ (takes at here first bytes more others none longest h) =
     let f : Found here first bytes more = same_at here first bytes more longest in
     let n : ℕ = length bytes in
-    let same : cuts at here ≡ lexeme f.kind at n ∷ cuts (at + n) (drop n here)
+    let same : cuts at here ≡ (token_of f.kind (take n here), at) ∷ cuts (at + n) (drop n here)
     = cuts_token at n f.kind here (found_front here f.kind n none f.found) f.some f.within in
     let front_is : take n here ≡ bytes
     = ap (λ t. take n t) longest.begins.whole ∙ take_at bytes more n refl in
-    let placed_is : placed text (lexeme f.kind at n) ≡ (first, at)
-    = cut_bytes text here at n f.kind e ∙ (λ i. (token_of f.kind (front_is i), at)) ∙ (λ i. (f.same i, at)) in
-    let rest_is : others ≡ map (placed text) (cuts (at + n) more)
-    = only_cuts text (at + n) more others h (further text here at n e ∙ f.behind) in
-    ap (λ ts. (first, at) ∷ ts) (rest_is ∙ ap (λ r. map (placed text) (cuts (at + n) r)) (sym f.behind))
-    ∙ ap (λ p. p ∷ map (placed text) (cuts (at + n) (drop n here))) (sym placed_is) ∙ sym (ap (map (placed text)) same)
-only_cuts text _ _ _ (stops at b more solid none) e =
+    let token_is : token_of f.kind (take n here) ≡ first = ap (token_of f.kind) front_is ∙ f.same in
+    ap (λ ts. (first, at) ∷ ts) (only_cuts (at + n) more others h ∙ ap (λ r. cuts (at + n) r) (sym f.behind))
+    ∙ ap (λ t. (t, at) ∷ cuts (at + n) (drop n here)) (sym token_is) ∙ sym same
+only_cuts _ _ _ (stops at b more solid none) =
     let quiet : NoComment (b ∷ more) = no_token_no_comment (b ∷ more) none in
-    let same : cuts at (b ∷ more) ≡ point kind.Bad at ∷ []
+    let same : cuts at (b ∷ more) ≡ (Bad, at) ∷ []
     = cuts_wrong at (b ∷ more) (front_token b more solid (no_comment_len (b ∷ more) quiet)
     ∙ ap front_of_cut (no_token_none (b ∷ more) none)) (omega arith) in
-    sym (ap (map (placed text)) same)
+    sym same
 
 pub one_reading : EachHasOneReading
-one_reading text = (
-  map (placed text) (cuts 0 text),
-  cuts_read text,
-  λ others h. sym (only_cuts text 0 text others h refl),
-)
-
--- ---- the cuts lie in the text
-
-spelled_of : (k : Kind) (bytes : List ℕ) → Spells (token_of k bytes) bytes → IsSpelled k bytes
-spelled_of (kind.Word k) bytes h = h
-spelled_of (kind.Sign s) bytes h = h
-spelled_of (kind.Operation o) bytes h = h
-spelled_of kind.Name bytes h = h
-spelled_of (kind.Number n) bytes h = h
-spelled_of kind.Hex bytes h = h
-spelled_of kind.Quoted bytes h = h
-spelled_of kind.End bytes h = tt
-spelled_of kind.Bad bytes h = tt
-
-AllLie : List ℕ → ℕ → Type 0
-AllLie text k = (at : ℕ) (rest : List ℕ) → drop at text ≡ rest → at ≤ length text → length rest ≤ k
-    → AllByRecursion (LiesIn text) (cuts at rest)
-
-room : (text : List ℕ) (at : ℕ) (rest : List ℕ) → drop at text ≡ rest → at ≤ length text
-    → at + length rest ≡ length text
-room text at rest e h = omega (arith, length-drop at text, ap length e)
-
-token_lies : (text : List ℕ) (k at b : ℕ) (rest : List ℕ) (found : Cut) → drop at text ≡ b ∷ rest → at ≤ length text
-    → length rest ≤ k → AllLie text k → is_blank b ≡ false → comment_len (b ∷ rest) ≡ 0 → token_at (b ∷ rest) ≡ found
-    → AllByRecursion (LiesIn text) (cuts at (b ∷ rest))
-unfolding AllLie
-token_lies text k at b rest None e in_text short all solid none found =
-    let same : cuts at (b ∷ rest) ≡ point kind.Bad at ∷ []
-    = cuts_wrong at (b ∷ rest) (front_token b rest solid none ∙ ap front_of_cut found) (omega arith) in
-    subst (AllByRecursion (LiesIn text)) (sym same)
-    (record { ordered = omega arith; within = in_text; spelled = tt }, tt)
-token_lies text k at b rest (Some cut) e in_text short all solid none found =
-    let n : ℕ = cut.1 in
-    let sound : Sound cut.0 n (b ∷ rest) = found_sound (b ∷ rest) cut.0 n found in
-    let same : cuts at (b ∷ rest) ≡ lexeme cut.0 at n ∷ cuts (at + n) (drop n (b ∷ rest))
-    = cuts_token at n cut.0 (b ∷ rest) (front_token b rest solid none ∙ ap front_of_cut found)
-    sound.some sound.within in
-    let full : at + length (b ∷ rest) ≡ length text = room text at (b ∷ rest) e in_text in
-    let fits : at + n ≤ length text = omega (arith, sound.within) in
-    let less : at + n - at ≡ n = omega arith in
-    let bytes : bytes_of text (lexeme cut.0 at n) ≡ take n (b ∷ rest) = (λ i. take (less i) (e i)) in
-    let here : LiesIn text (lexeme cut.0 at n) = record {
-      ordered = omega arith;
-      within = fits;
-      spelled = subst (IsSpelled cut.0) (sym bytes) (spelled_of cut.0 (take n (b ∷ rest)) sound.spelled);
-    } in
-    let more : AllByRecursion (LiesIn text) (cuts (at + n) (drop n (b ∷ rest)))
-    = all (at + n) (drop n (b ∷ rest)) (further text (b ∷ rest) at n e) fits
-    (omega (arith, length-drop n (b ∷ rest), sound.some)) in
-    subst (AllByRecursion (LiesIn text)) (sym same) (here, more)
-
-passed_lie : (text : List ℕ) (k at n b : ℕ) (rest : List ℕ) → drop at text ≡ b ∷ rest → at ≤ length text
-    → length rest ≤ k → AllLie text k → front_at (b ∷ rest) ≡ front.Blank n → 0 < n → n ≤ length (b ∷ rest)
-    → AllByRecursion (LiesIn text) (cuts at (b ∷ rest))
-unfolding AllLie
-passed_lie text k at n b rest e in_text short all here p fits =
-    let same : cuts at (b ∷ rest) ≡ cuts (at + n) (drop n (b ∷ rest)) = cuts_blank at n (b ∷ rest) here p fits in
-    let full : at + length (b ∷ rest) ≡ length text = room text at (b ∷ rest) e in_text in
-    subst (AllByRecursion (LiesIn text)) (sym same)
-    (all (at + n) (drop n (b ∷ rest)) (further text (b ∷ rest) at n e) (omega arith)
-    (omega (arith, length-drop n (b ∷ rest))))
-
-all_lie : (text : List ℕ) (k : ℕ) → AllLie text k
-unfolding AllLie
-all_lie text k at [] e in_text short =
-    subst (AllByRecursion (LiesIn text)) (sym (cuts_end at [] refl))
-    (record { ordered = omega arith; within = in_text; spelled = tt }, tt)
-all_lie text zero at (b ∷ rest) e in_text short = absurd (omega arith)
-all_lie text (suc k) at (b ∷ rest) e in_text short =
-    elim (cases_Bool (is_blank b)) [
-      | inl blank ↦ passed_lie text k at 1 b rest e in_text (omega arith) (all_lie text k) (front_blank b rest blank)
-          (omega arith) (omega arith)
-      | inr solid ↦ elim (cases_eq (comment_len (b ∷ rest)) 0) [
-        | inl none ↦ token_lies text k at b rest (token_at (b ∷ rest)) e in_text (omega arith) (all_lie text k) solid
-            none refl
-        | inr some ↦
-            (let p : 0 < comment_len (b ∷ rest) = omega arith in
-            passed_lie text k at (comment_len (b ∷ rest)) b rest e in_text (omega arith) (all_lie text k)
-            (front_comment b (comment_len (b ∷ rest)) rest solid refl p) p (comment_sound (b ∷ rest) p).within)
-      ]
-    ]
-
-pub cuts_lie : (text : List ℕ) → AllByRecursion (LiesIn text) (cuts 0 text)
-unfolding AllLie
-cuts_lie text = all_lie text (length text) 0 text refl (omega arith) (omega arith)
+one_reading text = (cuts 0 text, cuts_read text, λ others h. sym (only_cuts 0 text others h))

@@ -17,7 +17,9 @@ use Rattle.ivy_syntax.specs.declared.lexeme.Symbol.TheVariants as symbol
 use Rattle.ivy_syntax.specs.Token.{Token, Operation, Name}
 use Rattle.ivy_syntax.specs.Token as token
 use Rattle.ivy_syntax.specs.Tokens.{Placed}
-use Rattle.ivy_syntax.specs.Grammar.{Level, Comparison, Unary, Reads, alone, joined, compared, prefixed, one_token}
+use Rattle.ivy_syntax.specs.declared.level.Level.{Level}
+use Rattle.ivy_syntax.specs.declared.level.Level.TheVariants.{Comparison, Unary}
+use Rattle.ivy_syntax.specs.Grammar.{Reads, alone, joined, compared, prefixed, one_token}
 use Rattle.ivy_syntax.specs.Grammar.{empty_call, call, members, parentheses, Members, member, more_members, between}
 use Rattle.ivy_syntax.specs.Grammar.{before}
 use Rattle.ivy_syntax.specs.Grammar.{enclosed, single, word, Names, a_name_alone, more_names, IsGroup, group, Groups}
@@ -105,12 +107,6 @@ mutual
       let l = members_again h m.first m.same_first in
       let r = reads_again k m.second m.same_second in
       (l.0 ++ (r.0 ∷ []), subst (λ w. Members depth w (l.0 ++ (r.0 ∷ []))) (sym m.all) (more_members m.place l.1 r.1))
-
-pub expr_replaced : (level : Level) (depth : ℕ) → Replaces (Reads level depth)
-expr_replaced level depth u e h w same = reads_again h w same
-
-pub members_replaced : (depth : ℕ) → Replaces (Members depth)
-members_replaced depth u items h w same = members_again h w same
 
 -- ---- parameters
 

@@ -19,7 +19,8 @@ use Rattle.ivy_syntax.specs.declared.lexeme.Symbol.TheVariants as symbol
 use Rattle.ivy_syntax.specs.Token.{Token, Name}
 use Rattle.ivy_syntax.specs.Token as token
 use Rattle.ivy_syntax.specs.Tokens.{Placed}
-use Rattle.ivy_syntax.specs.Grammar.{Or, word, Names, a_name_alone, more_names, IsGroup, group, Groups, a_group}
+use Rattle.ivy_syntax.specs.declared.level.Level.TheVariants.{Or}
+use Rattle.ivy_syntax.specs.Grammar.{word, Names, a_name_alone, more_names, IsGroup, group, Groups, a_group}
 use Rattle.ivy_syntax.specs.Grammar.{more_groups, Params, no_params, params, IsReq, req, ReqList, a_req, more_reqs}
 use Rattle.ivy_syntax.specs.Grammar.{Requires, no_requires, requires, IsStmt, verify, lock, unlock, Stmts, a_stmt}
 use Rattle.ivy_syntax.specs.Grammar.{more_stmts, IsClause, clause, Clauses, a_clause, more_clauses, IsContract}

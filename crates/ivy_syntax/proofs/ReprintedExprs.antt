@@ -20,7 +20,9 @@ use Rattle.ivy_syntax.specs.declared.lexeme.Operator.{Operator}
 use Rattle.ivy_syntax.specs.Token.{Token, Operation, Name}
 use Rattle.ivy_syntax.specs.Token as token
 use Rattle.ivy_syntax.specs.Tokens.{Placed}
-use Rattle.ivy_syntax.specs.Grammar.{Level, Or, And, Comparison, Shift, Sum, Term, Unary, below, binary, unary, Reads}
+use Rattle.ivy_syntax.specs.declared.level.Level.{Level}
+use Rattle.ivy_syntax.specs.declared.level.Level.TheVariants.{Or, And, Comparison, Shift, Sum, Term, Unary}
+use Rattle.ivy_syntax.specs.Grammar.{below, binary, unary, Reads}
 use Rattle.ivy_syntax.specs.Grammar.{alone, joined, compared, prefixed, one_token, empty_call, call, members}
 use Rattle.ivy_syntax.specs.Grammar.{parentheses, Members, member, more_members, between, before, enclosed, single}
 use Rattle.ivy_syntax.specs.Grammar.{IsSingle}

@@ -1,4 +1,4 @@
--- The longest front of a list whose members pass a test, and what is behind it.
+-- The longest front of a list whose members pass a test, and what is after it.
 use Rattle.std.proofs.Common.{◌≡◌, ◌≤◌, ◌+◌, ℕ, zero, suc, Bool, true, false, List, [], ◌∷◌, ◌++◌}
 use Rattle.std.proofs.Common.{inl, inr, length, take, drop, refl, ap, ◌∙◌, arith}
 use Rattle.std.specs.List.{list_all, prefix_len}

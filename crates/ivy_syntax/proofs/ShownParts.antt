@@ -9,8 +9,10 @@ use Rattle.ivy_syntax.specs.Shown.{separated, binary_tokens, operator_of}
 use Rattle.ivy_syntax.specs.Token.{Operation, Name, Token}
 use Rattle.ivy_syntax.specs.Tokens.{Placed}
 use Rattle.ivy_syntax.specs.declared.tree.Form.TheVariants as forms
-use Rattle.ivy_syntax.specs.Grammar.{between, before, Members, member, more_members, Level, Or, And, Comparison, Shift}
-use Rattle.ivy_syntax.specs.Grammar.{Sum, Term, Unary, below, rank, binary, unary, enclosed, single, IsSingle, a_number}
+use Rattle.ivy_syntax.specs.declared.level.Level.{Level}
+use Rattle.ivy_syntax.specs.declared.level.Level.TheVariants.{Or, And, Comparison, Shift, Sum, Term, Unary}
+use Rattle.ivy_syntax.specs.Grammar.{between, before, Members, member, more_members}
+use Rattle.ivy_syntax.specs.Grammar.{below, rank, binary, unary, enclosed, single, IsSingle, a_number}
 use Rattle.ivy_syntax.specs.Grammar.{a_true, a_false, a_hex, a_text, a_name}
 use Rattle.ivy_syntax.specs.declared.tree.Expr.{Expr, fold-Expr}
 use Rattle.ivy_syntax.specs.declared.tree.Form.{Form}

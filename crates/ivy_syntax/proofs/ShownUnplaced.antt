@@ -15,7 +15,8 @@ use Rattle.ivy_syntax.specs.declared.lexeme.Keyword.TheVariants as keyword
 use Rattle.ivy_syntax.specs.declared.lexeme.Symbol.TheVariants as symbol
 use Rattle.ivy_syntax.specs.Token.{Token, Name}
 use Rattle.ivy_syntax.specs.Token as token
-use Rattle.ivy_syntax.specs.Grammar.{Level, Or}
+use Rattle.ivy_syntax.specs.declared.level.Level.{Level}
+use Rattle.ivy_syntax.specs.declared.level.Level.TheVariants.{Or}
 use Rattle.ivy_syntax.specs.Shown.{separated, Show, tokens_by, tokens_at, word_tokens, group_tokens, params_tokens}
 use Rattle.ivy_syntax.specs.Shown.{req_tokens, requires_tokens, stmt_tokens, clause_tokens, contract_tokens, shown}
 use Rattle.ivy_syntax.specs.Unplaced.{unplaced_expr, unplaced_word, unplaced_group, unplaced_req, unplaced_stmt}

@@ -69,7 +69,7 @@ spelled_takes Bad bytes h = absurd h
 
 -- ---- texts
 
--- what stands behind a comment is no longer
+-- what stands after a comment is no longer
 comment_within : (text comment rest : List ℕ) → BeginsComment text comment rest → length rest ≤ length text
 comment_within text comment rest (line body whole is all behind) =
     omega (arith, ap length whole, length-append comment rest)

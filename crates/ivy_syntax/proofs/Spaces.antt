@@ -27,7 +27,7 @@ use Rattle.ivy_syntax.specs.Spaced.{spaced}
 use Rattle.ivy_syntax.proofs.Reach.{all_hex}
 use Rattle.ivy_syntax.proofs.Written.{digits_stand}
 
--- Tokens are added behind others.
+-- Tokens are added after others.
 pub added : (text : List ℕ) (a b : List Token) → (text ++ spaced a) ++ spaced b ≡ text ++ spaced (a ++ b)
 added text a b =
     append_assoc text (spaced a) (spaced b)

@@ -29,7 +29,7 @@ headed t b w same =
     let f = front_of t (placed b) w (same ∙ ap (λ (l : List Token). t ∷ l) (sym (kinds_placed b))) in
     record { place = f.place; behind = f.behind; all = f.all; same = f.same ∙ kinds_placed b }
 
--- two lists, one behind the other
+-- two lists, one after the other
 pub record Parted (a b : List Token) (w : List Placed) : Type 0 where
   pub first : List Placed
   pub second : List Placed
@@ -74,7 +74,7 @@ halved a t b w same =
       same_second = f.same;
     }
 
--- a token behind a list
+-- a token after a list
 pub record Closed (a : List Token) (t : Token) (w : List Placed) : Type 0 where
   pub first : List Placed
   pub place : ℕ

@@ -5,14 +5,14 @@ use Rattle.std.proofs.Common.{arith}
 use Rattle.std.proofs.lemmas.Bool.{cases_Bool, cond-true, cond-false, eqb-true}
 use Rattle.std.proofs.lemmas.List.{length-drop, drop-drop, append_assoc, take_rest}
 use Rattle.ivy_syntax.specs.declared.lexeme.Kind.{Kind}
-use Rattle.ivy_syntax.specs.declared.lexeme.Kind.TheVariants as kind
 use Rattle.ivy_syntax.specs.declared.lexeme.Front.{Front}
 use Rattle.ivy_syntax.specs.declared.lexeme.Front.TheVariants as front
-use Rattle.ivy_syntax.specs.declared.lexeme.Lexeme.{Lexeme}
 use Rattle.std.specs.List.{prefix_len}
-use Rattle.ivy_syntax.specs.Tokens.{is_blank, is_in_line}
+use Rattle.ivy_syntax.specs.Token.{End, Bad}
+use Rattle.ivy_syntax.specs.Tokens.{Placed, is_blank, is_in_line}
+use Rattle.ivy_syntax.specs.Lexeme.{token_of}
 use Rattle.ivy_syntax.specs.Cutting.{close_from, close_of, closed_len, begins_block, comment_len, front_at}
-use Rattle.ivy_syntax.specs.Cutting.{TakesWithin, lexeme, point, cuts}
+use Rattle.ivy_syntax.specs.Cutting.{TakesWithin, cuts}
 use Rattle.ivy_syntax.proofs.Cuts.{none_behind, cuts_blank, cuts_token, cuts_wrong, cuts_end}
 
 -- the text from a place on, as a slice gives it
@@ -26,7 +26,7 @@ within_there : (text : List ℕ) (at : ℕ) (f : Front) → TakesWithin f (lengt
     → TakesWithin f (length (drop at text))
 within_there text at f h = subst (λ r. TakesWithin f (length r)) (take_rest text at) h
 
-module _ (text : List ℕ) (at : ℕ) (found : List Lexeme) (whole : found ++ cuts at (drop at text) ≡ cuts 0 text) where
+module _ (text : List ℕ) (at : ℕ) (found : List Placed) (whole : found ++ cuts at (drop at text) ≡ cuts 0 text) where
   pub step_blank : (len : ℕ) → front.Blank len ≡ front_at (tail text at)
       → TakesWithin (front.Blank len) (length (tail text at))
       → found ++ cuts (at + len) (drop (at + len) text) ≡ cuts 0 text
@@ -34,26 +34,29 @@ module _ (text : List ℕ) (at : ℕ) (found : List Lexeme) (whole : found ++ cu
       let e' : front_at (drop at text) ≡ front.Blank len = front_there text at (front.Blank len) e in
       let h' : TakesWithin (front.Blank len) (length (drop at text)) = within_there text at (front.Blank len) h in
       ap (λ r. found ++ cuts (at + len) r) (sym (drop-drop len at text))
-      ∙ ap (λ ls. found ++ ls) (sym (cuts_blank at len (drop at text) e' h'.0 h'.1)) ∙ whole
+      ∙ ap (λ ts. found ++ ts) (sym (cuts_blank at len (drop at text) e' h'.0 h'.1)) ∙ whole
 
   pub step_token : (k : Kind) (len : ℕ) → front.Token k len ≡ front_at (tail text at)
       → TakesWithin (front.Token k len) (length (tail text at))
-      → (found ++ (lexeme k at len ∷ [])) ++ cuts (at + len) (drop (at + len) text) ≡ cuts 0 text
+      → (found ++ ((token_of k (take len (tail text at)), at) ∷ [])) ++ cuts (at + len) (drop (at + len) text)
+      ≡ cuts 0 text
   step_token k len e h =
       let e' : front_at (drop at text) ≡ front.Token k len = front_there text at (front.Token k len) e in
       let h' : TakesWithin (front.Token k len) (length (drop at text)) = within_there text at (front.Token k len) h in
-      append_assoc found (lexeme k at len ∷ []) (cuts (at + len) (drop (at + len) text))
-      ∙ ap (λ r. found ++ (lexeme k at len ∷ cuts (at + len) r)) (sym (drop-drop len at text))
-      ∙ ap (λ ls. found ++ ls) (sym (cuts_token at len k (drop at text) e' h'.0 h'.1)) ∙ whole
+      let token : List ℕ → Placed = λ r. (token_of k (take len r), at) in
+      append_assoc found (token (tail text at) ∷ []) (cuts (at + len) (drop (at + len) text))
+      ∙ ap (λ r. found ++ (token r ∷ cuts (at + len) (drop (at + len) text))) (take_rest text at)
+      ∙ ap (λ r. found ++ (token (drop at text) ∷ cuts (at + len) r)) (sym (drop-drop len at text))
+      ∙ ap (λ ts. found ++ ts) (sym (cuts_token at len k (drop at text) e' h'.0 h'.1)) ∙ whole
 
   pub step_wrong : front.Wrong ≡ front_at (tail text at) → at < length text
-      → found ++ (point kind.Bad at ∷ []) ≡ cuts 0 text
+      → found ++ ((Bad, at) ∷ []) ≡ cuts 0 text
   step_wrong e h =
       let e' : front_at (drop at text) ≡ front.Wrong = front_there text at front.Wrong e in
-      ap (λ ls. found ++ ls) (sym (cuts_wrong at (drop at text) e' (omega (arith, length-drop at text)))) ∙ whole
+      ap (λ ts. found ++ ts) (sym (cuts_wrong at (drop at text) e' (omega (arith, length-drop at text)))) ∙ whole
 
-  pub step_end : length text ≤ at → found ++ (point kind.End at ∷ []) ≡ cuts 0 text
-  step_end h = ap (λ ls. found ++ ls) (sym (cuts_end at (drop at text) (omega (arith, length-drop at text)))) ∙ whole
+  pub step_end : length text ≤ at → found ++ ((End, at) ∷ []) ≡ cuts 0 text
+  step_end h = ap (λ ts. found ++ ts) (sym (cuts_end at (drop at text) (omega (arith, length-drop at text)))) ∙ whole
 
 -- ---- where no `*/` follows
 

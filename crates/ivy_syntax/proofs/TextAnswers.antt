@@ -10,11 +10,11 @@ use Rattle.ivy_syntax.specs.Tokens.{Placed, AreTokens}
 use Rattle.ivy_syntax.specs.Descent.{file_at}
 use Rattle.ivy_syntax.specs.Limits.{FirstPassed}
 use Rattle.ivy_syntax.specs.Texts.{AnswersText, TextLaws}
-use Rattle.ivy_syntax.specs.Answering.{AnswersOr, unpassed, limit_there}
+use Rattle.ivy_syntax.specs.Answering.{AnswersOr, unpassed}
 use Rattle.ivy_syntax.proofs.Readings.{one_reading}
 use Rattle.ivy_syntax.proofs.Verdict.{Reached, Told, told}
 use Rattle.ivy_syntax.proofs.CountedLimits.{kinds_of, NoneBefore, first_passed}
-use Rattle.ivy_syntax.proofs.Faults.{places_of, source_there, syntax_there, deep_there, none_before, passed_there}
+use Rattle.ivy_syntax.proofs.Faults.{places_of, source_there, syntax_there, deep_some, none_before, passed_there}
 use Rattle.ivy_syntax.proofs.OneAnswer.{one_answer}
 
 abbrev is_end : Token → Bool
@@ -59,10 +59,9 @@ module _ (text : List ℕ) (ts : List Placed) (are : AreTokens 0 text ts) (found
       )
   some_by (Wrong rest) h = or_else rest h.0 (unpassed (places_of ts) (length rest) found) refl
       (λ none. (Err (faults.Syntax h.0.token.1), syntax_there text ts are rest h.0 none h.1))
-  some_by (Deep rest) h = or_else rest h.0 (unpassed (places_of ts) (length rest) found) refl (λ none. (
-    Err (faults.TooMany (limit_there (length ts) (length rest) found) h.0.token.1),
-    deep_there text ts are rest h.0 found first none h.1 h.2,
-  ))
+  some_by (Deep rest) h = or_else rest h.0 (unpassed (places_of ts) (length rest) found) refl
+      (λ none. (let limit = deep_some text ts are rest h.0 none h.1 h.2 in
+      (Err (faults.TooMany limit.0 h.0.token.1), limit.1)))
 
 some_answer : (text : List ℕ) → (answer : Result Source ParseFault) × AnswersText text answer
 unfolding HasAnswer

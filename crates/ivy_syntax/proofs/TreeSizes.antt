@@ -20,7 +20,8 @@ use Rattle.ivy_syntax.specs.declared.lexeme.Symbol.TheVariants as symbol
 use Rattle.ivy_syntax.specs.Token.{Token, Name, Number, Hex, Quoted}
 use Rattle.ivy_syntax.specs.Token as token
 use Rattle.ivy_syntax.specs.Tokens.{Placed}
-use Rattle.ivy_syntax.specs.Grammar.{Level, Reads, alone, joined, compared, prefixed, one_token, empty_call, call}
+use Rattle.ivy_syntax.specs.declared.level.Level.{Level}
+use Rattle.ivy_syntax.specs.Grammar.{Reads, alone, joined, compared, prefixed, one_token, empty_call, call}
 use Rattle.ivy_syntax.specs.Grammar.{members, parentheses, Members, member, more_members, IsSingle, a_number, a_true}
 use Rattle.ivy_syntax.specs.Grammar.{a_false, a_hex, a_text, a_name, single, enclosed, between, Names}
 use Rattle.ivy_syntax.specs.Grammar.{a_name_alone, more_names, IsGroup, group, Groups, a_group, more_groups, Params}
@@ -101,7 +102,7 @@ together {u = u} {w = w} h g = record {
   literals = omega (arith, literals_append u w);
 }
 
--- tokens behind, for no node
+-- tokens after, for no node
 followed : {u : List Placed} {n l : ℕ} (w : List Placed) → Holds u n l → Holds (u ++ w) n l
 followed w h =
     let rest : Holds w 0 0 = record { tokens = omega arith; literals = omega arith } in

@@ -1,5 +1,5 @@
 -- The turns of a chain, as the code goes over it.
-use Rattle.std.specs.Prelude.{◌≡◌, ℕ, zero, suc, ◌≤◌, ◌<◌, Bool, true, List, [], ◌∷◌, ◌++◌, length, cond, map}
+use Rattle.std.specs.Prelude.{◌≡◌, ℕ, zero, suc, ◌≤◌, ◌<◌, Bool, true, List, [], ◌∷◌, ◌++◌, length, cond}
 use Rattle.std.specs.Prelude.{refl, Result, Ok, Err}
 use Rattle.std.specs.Result.{IsErrAnd}
 use Rattle.std.specs.Borrow.{Bor}
@@ -11,11 +11,10 @@ use Rattle.grammars.specs.Gathered.{one_item, and_item}
 use Rattle.ivy_syntax.specs.declared.lexeme.Lexeme.{Lexeme}
 use Rattle.ivy_syntax.specs.declared.reading.Stop.{Stop}
 use Rattle.ivy_syntax.specs.declared.reading.Stop.TheVariants as stops
-use Rattle.ivy_syntax.specs.Lexeme.{placed}
+use Rattle.ivy_syntax.specs.Lexeme.{placed, tokens}
 use Rattle.ivy_syntax.specs.Tokens.{Placed}
 use Rattle.ivy_syntax.specs.Descent.{Reader}
-use Rattle.ivy_syntax.specs.Agreement.{Stops, GoesOn, Agrees}
-use Rattle.ivy_syntax.proofs.Shorter.{Shortens}
+use Rattle.ivy_syntax.specs.Agreement.{Stops, GoesOn, Agrees, Shortens}
 
 -- what is still to be read gives what all gives
 pub record Turning {V A : Type 0} (on : Placed → Bool) (read : Placed → Reader V) (join : Placed → A → V → A)
@@ -25,7 +24,7 @@ pub record Turning {V A : Type 0} (on : Placed → Bool) (read : Placed → Read
   pub same : all ≡ tail on read join fuel a ts
 
 module _ {V A : Type 0} (on : Placed → Bool) (read : Placed → Reader V) (join : Placed → A → V → A) where
-  -- behind the first part
+  -- after the first part
   pub turn_begin : (all : Outcome Placed A) (first : Outcome Placed V) (make : V → A) (v : V) (rest : List Placed)
       → all ≡ (first >>= λ a. tail on read join (length a.1) (make a.0) a.1) → first ≡ Got v rest
       → Turning on read join all (make v) rest
@@ -63,7 +62,7 @@ module _ {V A : Type 0} (on : Placed → Bool) (read : Placed → Reader V) (joi
       (subst (λ ts. length ts ≤ turning.fuel) go.first turning.enough)
       (turning.same ∙ ap (tail on read join turning.fuel a) go.first) go.goes
 
--- ---- turns over the tokens of a text
+-- ---- turns over lexemes
 
 goes_shorter : (on : Placed → Bool) (ts : List Placed) (t : Placed) (behind : List Placed) → GoesOn on ts t behind
     → length behind < length ts
@@ -73,20 +72,31 @@ goes_shorter on ts t behind go =
 
 -- A turn leaves fewer tokens.
 pub turn_fewer : {V : Type 0} {on : Placed → Bool} {read : Reader V} {t : Placed} {behind : List Placed} {b : V}
-    (text : List ℕ) (ts left : List Lexeme) → GoesOn on (map (placed text) ts) t behind → Shortens read
-    → read behind ≡ Got b (map (placed text) left) → length left < length ts
-turn_fewer {on = on} {t = t} {behind = behind} {b = b} text ts left go shortens got =
+    (ts left : List Lexeme) → GoesOn on (tokens ts) t behind → Shortens read → read behind ≡ Got b (tokens left)
+    → length left < length ts
+turn_fewer {on = on} {t = t} {behind = behind} {b = b} ts left go shortens got =
     omega (
       arith,
-      goes_shorter on (map (placed text) ts) t behind go,
-      shortens behind (map (placed text) left) b got,
-      length-map ts (placed text),
-      length-map left (placed text),
+      goes_shorter on (tokens ts) t behind go,
+      shortens behind (tokens left) b got,
+      length-map ts placed,
+      length-map left placed,
     )
+
+-- A turn leaves fewer lexemes.
+pub fewer_next : {on : Placed → Bool} {t : Placed} (ts behind left : List Lexeme) → GoesOn on (tokens ts) t (tokens behind)
+    → length left ≤ length behind → length left < length ts
+fewer_next {on} {t} ts behind left go fewer = omega (
+  arith,
+  fewer,
+  goes_shorter on (tokens ts) t (tokens behind) go,
+  length-map ts placed,
+  length-map behind placed,
+)
 
 module _ {V A : Type 0} {on : Placed → Bool} {read : Placed → Reader V} {join : Placed → A → V → A}
     {all : Outcome Placed A} {a : A} {ts : List Placed} (turning : Turning on read join all a ts) where
-  -- Behind it the rest is still to be read.
+  -- After it the rest is still to be read.
   pub turn_next : {c : A} {t : Placed} {behind left : List Placed} {b : V} → GoesOn on ts t behind
       → Shortens (read t) → read t behind ≡ Got b left → c ≡ join t a b → Turning on read join all c left
   turn_next {c} {t} {behind} {left} {b} go shortens got is =
@@ -97,23 +107,34 @@ module _ {V A : Type 0} {on : Placed → Bool} {read : Placed → Reader V} {joi
             ∙ ap (λ a. tail on read join g.0 a left) (sym is);
       }
 
-  -- Where a turn stops, all does, and so does what is passed on.
-  turn_stops : {t : Placed} {behind : List Placed} (text : List ℕ) (stop : Stop) → GoesOn on ts t behind
-      → Agrees {V = V} text (Err stop) (read t behind) → Agrees {V = A} text (Err stop) all
-  turn_stops {t} {behind} text (stops.Wrong rest) go is =
-      let g = going on read join all a ts t behind turning go in
-      g.2 ∙ ap (λ o. o >>= λ b. tail on read join g.0 (join t a b.0) b.1) is
-  turn_stops {t} {behind} text (stops.Deep rest) go is =
-      let g = going on read join all a ts t behind turning go in
-      g.2 ∙ ap (λ o. o >>= λ b. tail on read join g.0 (join t a b.0) b.1) is
-  turn_stops text stops.NoMemory go is = tt
+  pub next_turn : {c : A} {t : Placed} {b : V} (behind left : List Lexeme) → GoesOn on ts t (tokens behind)
+      → length left ≤ length behind → read t (tokens behind) ≡ Got b (tokens left) → c ≡ join t a b
+      → Turning on read join all c (tokens left)
+  next_turn {c} {t} {b} behind left go fewer got is =
+      let g = going on read join all a ts t (tokens behind) turning go in record {
+        fuel = g.0;
+        enough = omega (arith, fewer, g.1, length-map behind placed, length-map left placed);
+        same = g.2 ∙ ap (λ o. o >>= λ b. tail on read join g.0 (join t a b.0) b.1) got
+            ∙ ap (λ a. tail on read join g.0 a (tokens left)) (sym is);
+      }
 
-  pub turn_passes : {t : Placed} {behind : List Placed} (text : List ℕ) (stop : Stop)
+  -- Where a turn stops, all does, and so does what is passed on.
+  turn_stops : {t : Placed} {behind : List Placed} (stop : Stop) → GoesOn on ts t behind
+      → Agrees {V = V} (Err stop) (read t behind) → Agrees {V = A} (Err stop) all
+  turn_stops {t} {behind} (stops.Wrong rest) go is =
+      let g = going on read join all a ts t behind turning go in
+      g.2 ∙ ap (λ o. o >>= λ b. tail on read join g.0 (join t a b.0) b.1) is
+  turn_stops {t} {behind} (stops.Deep rest) go is =
+      let g = going on read join all a ts t behind turning go in
+      (g.2 ∙ ap (λ o. o >>= λ b. tail on read join g.0 (join t a b.0) b.1) is.0, is.1)
+  turn_stops stops.NoMemory go is = tt
+
+  pub turn_passes : {t : Placed} {behind : List Placed} (stop : Stop)
       (result : Result (A × Bor (List Lexeme)) Stop) → GoesOn on ts t behind
-      → Agrees {V = V} text (Err stop) (read t behind) → IsErrAnd result (λ e. e ≡ stop) → Agrees text result all
-  turn_passes text stop (Ok found) go is passed = absurd passed
-  turn_passes text stop (Err e) go is passed =
-      subst (λ e. Agrees text (Err e) all) (sym passed) (turn_stops text stop go is)
+      → Agrees {V = V} (Err stop) (read t behind) → IsErrAnd result (λ e. e ≡ stop) → Agrees result all
+  turn_passes stop (Ok found) go is passed = absurd passed
+  turn_passes stop (Err e) go is passed =
+      subst (λ e. Agrees (Err e) all) (sym passed) (turn_stops stop go is)
 
   -- Where no token goes on, what there is is all.
   pub turn_ends : Stops on ts → all ≡ Got a ts

@@ -1,5 +1,5 @@
 -- What is unary comes out as the parser goes.
-use Rattle.std.specs.Prelude.{◌≡◌, ℕ, suc, ◌≤◌, Bool, true, false, List, [], ◌∷◌, ◌++◌, Some, refl}
+use Rattle.std.specs.Prelude.{◌≡◌, ℕ, suc, ◌≤◌, Bool, true, false, List, [], ◌∷◌, ◌++◌, Some, None, refl}
 use Rattle.std.proofs.Common.{sym, ap, ◌∙◌, inl, inr, subst, true≢false, arith}
 use Rattle.std.proofs.lemmas.Option.{same_Some}
 use mathlib.Core.List.{append_assoc}
@@ -24,13 +24,15 @@ use Rattle.ivy_syntax.specs.declared.lexeme.Symbol.TheVariants as symbol
 use Rattle.ivy_syntax.specs.Token.{Token, sign, Name}
 use Rattle.ivy_syntax.specs.Token as token
 use Rattle.ivy_syntax.specs.Tokens.{Placed}
-use Rattle.ivy_syntax.specs.Grammar.{Level, Or, Unary, single, enclosed, before, Reads, alone, joined, compared}
+use Rattle.ivy_syntax.specs.declared.level.Level.{Level}
+use Rattle.ivy_syntax.specs.declared.level.Level.TheVariants.{Or, Unary}
+use Rattle.ivy_syntax.specs.Grammar.{single, enclosed, before, Reads, alone, joined, compared}
 use Rattle.ivy_syntax.specs.Grammar.{one_token, prefixed, empty_call, call, members, parentheses}
-use Rattle.ivy_syntax.specs.Descent.{Reader, strength, the_sign, listed, Start, Literal, Named, Paren}
+use Rattle.ivy_syntax.specs.Descent.{Reader, the_sign, listed, Start, Literal, Named, Paren}
 use Rattle.ivy_syntax.specs.Grammar.{rank}
 use Rattle.ivy_syntax.specs.Descent.{Bracket, Prefix, NoStart, start, close_paren, close_bracket, args_by, name_by}
 use Rattle.ivy_syntax.specs.Descent.{bracket_by, paren_by, nested_by, expr_by}
-use Rattle.ivy_syntax.proofs.Pieces.{Fine, sign_is, the_sign_is, a_sign}
+use Rattle.ivy_syntax.proofs.Pieces.{Fine, goes_at, sign_is, the_sign_is, a_sign}
 use Rattle.ivy_syntax.proofs.Levels.{Goes_on, Comes, some_expr, decides_expr}
 use Rattle.ivy_syntax.proofs.Operands.{is_comma, Listed, OrComma, weak, comma_apart, of_any_listed, to_listed, Args}
 use Rattle.ivy_syntax.proofs.Operands.{called}
@@ -103,7 +105,7 @@ pub any_unfollows : (t : Placed) (w : List Placed) (e : Expr) → Behind (Any (R
     → Any (Reads Unary) (t ∷ w) e
 any_unfollows t w e h = let a = any_follows t.1 (start t.0) w e h in (suc a.0, unfollows a.0 t.0 t.1 w e a.1)
 
--- ---- the part behind the first token, and all of it
+-- ---- the part after the first token, and all of it
 
 -- the first token of a list
 pub first_same : (u r w : List Placed) (t s : Placed) → u ≡ s ∷ w → next (u ++ r) ≡ Some t → s ≡ t
@@ -197,10 +199,10 @@ paren_apart : (t e : Placed) → close_paren t ≡ Some e → Goes_on Or t → �
 paren_apart t e is more = weak t symbol.CloseParen (the_sign_is symbol.CloseParen t e is) refl more
 
 -- a sign other than a comma or an opening parenthesis does not go on a list of expressions
-pub list_apart : (s : Symbol) → is_comma (token.Sign s, 0) ≡ false → strength (token.Sign s) ≡ 0 → (t e : Placed)
+pub list_apart : (s : Symbol) → is_comma (token.Sign s, 0) ≡ false → goes_at (token.Sign s) ≡ None → (t e : Placed)
     → the_sign s t ≡ Some e → OrComma (Goes_on Or) t → ⊥
-list_apart s comma zero_strength t e is (inl more) = weak t s (the_sign_is s t e is) zero_strength more
-list_apart s comma zero_strength t e is (inr same) =
+list_apart s comma none t e is (inl more) = weak t s (the_sign_is s t e is) none more
+list_apart s comma none t e is (inr same) =
     true≢false (sym same ∙ ap (λ t. is_comma t) (the_sign_is s t e is) ∙ comma)
 
 pub decides_listed : (depth : ℕ) (expr : Reader Expr) → Comes Or depth expr → (ts : List Placed)

@@ -174,7 +174,7 @@ pub record Reached (ts rest : List Placed) : Type 0 where
 abbrev pub upto : {ts rest : List Placed} → Reached ts rest → List Token
 upto r = kinds r.front ++ (r.token.0 ∷ [])
 
--- What reading comes to says of the tokens: behind a source stands the end, or the first token with which none goes on;
+-- What reading comes to says of the tokens: after a source stands the end, or the first token with which none goes on;
 -- or the first with which one goes on, and none within the bound.
 abbrev pub Told : List Placed → Outcome Placed Source → Type 0
 Told ts (Got s rest) = (r : Reached ts rest) × (r.token.0 ≡ End → File 32 r.front s × (r.behind ≡ []))

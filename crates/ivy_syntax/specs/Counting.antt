@@ -1,4 +1,4 @@
--- The counts from which the limits are told, one token after the other.
+-- The counts from which the limits are known, one token after the other. Only contracts of private functions name it.
 use Rattle.std.specs.Prelude.{◌≡◌, ◌+◌, ◌-◌, ◌^◌, ℕ, Bool, true, false, ◌&&◌, nat_le, nat_lt, if◌then◌else◌}
 use Rattle.std.specs.Prelude.{List, [], ◌∷◌, reverse, slice_get, Option, Some, None, is_none}
 use Rattle.ivy_syntax.specs.declared.lexeme.Kind.{Kind}

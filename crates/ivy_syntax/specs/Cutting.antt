@@ -1,11 +1,9 @@
--- How a text is cut into tokens from the left, as a function.
-use Rattle.std.specs.Prelude.{◌<◌, ◌≤◌, ◌+◌, ◌-◌, ◌*◌, ◌/◌, ◌^◌, ℕ, zero, suc, Bool, true, false, ◌&&◌, ◌||◌, ◌==◌}
-use Rattle.std.specs.Prelude.{nat_le}
+-- How a text is cut into tokens from the left, as a function. Only contracts of private functions name it.
+use Rattle.std.specs.Prelude.{◌<◌, ◌≤◌, ◌+◌, ◌-◌, ◌*◌, ◌/◌, ℕ, zero, suc, Bool, ◌&&◌, ◌==◌}
 use Rattle.std.specs.Prelude.{List, [], ◌∷◌, ◌++◌, take, drop, slice_index, if◌then◌else◌}
 use Rattle.std.specs.Prelude.{Option, Some, None, option_map, bytes_eq}
-use Rattle.std.specs.List.{list_all, prefix_len}
+use Rattle.std.specs.List.{prefix_len}
 use Rattle.std.specs.Char.{is_ascii_digit, is_ascii_hexdigit}
-use Rattle.std.specs.Str.Parse.{digits_value}
 use Rattle.ivy_syntax.specs.declared.lexeme.Keyword.{Keyword}
 use Rattle.ivy_syntax.specs.declared.lexeme.Keyword.TheVariants as keyword
 use Rattle.ivy_syntax.specs.declared.lexeme.Symbol.{Symbol}
@@ -16,11 +14,13 @@ use Rattle.ivy_syntax.specs.declared.lexeme.Kind.{Kind}
 use Rattle.ivy_syntax.specs.declared.lexeme.Kind.TheVariants as kind
 use Rattle.ivy_syntax.specs.declared.lexeme.Front.{Front}
 use Rattle.ivy_syntax.specs.declared.lexeme.Front.TheVariants as front
-use Rattle.ivy_syntax.specs.declared.lexeme.Lexeme.{Lexeme}
-use Rattle.ivy_syntax.specs.Token.{letters, begins_name, goes_on, is_quotable}
-use Rattle.ivy_syntax.specs.Tokens.{is_blank, is_in_line}
+use Rattle.wire.specs.Decimal.{decimal_within}
+use Rattle.wire.specs.Spelling.{greatest}
+use Rattle.ivy_syntax.specs.Token.{End, Bad, letters, begins_name, goes_on, is_quotable}
+use Rattle.ivy_syntax.specs.Tokens.{Placed, is_blank, is_in_line}
+use Rattle.ivy_syntax.specs.Lexeme.{token_of}
 
--- ---- the token at the front
+-- ---- the first token
 
 -- a kind, and how many bytes the token takes
 abbrev pub Cut : Type 0
@@ -46,25 +46,10 @@ unfoldable pub word_at : List ℕ → Cut
 word_at text =
     let len = prefix_len goes_on text in Some (word_kind (keyword_of (take len text)), len)
 
-abbrev pub is_empty : List ℕ → Bool
-is_empty [] = true
-is_empty (b ∷ bytes) = false
-
--- `0`, or digits that begin with 1 to 9
-abbrev pub is_decimal : List ℕ → Bool
-is_decimal [] = false
-is_decimal (d ∷ ds) = ((d == 48) && is_empty ds) || (nat_le 49 d && nat_le d 57 && list_all is_ascii_digit ds)
-
--- a number that a text may have
-abbrev pub within_most : ℕ → Option ℕ
-within_most n = if nat_le n (2 ^ 63 - 1) then Some n else None
-
-unfoldable pub number_of : List ℕ → Option ℕ
-number_of digits = if is_decimal digits then within_most (digits_value 10 digits) else None
-
 unfoldable pub number_at : List ℕ → Cut
 number_at text =
-    let len = prefix_len goes_on text in option_map (λ n. (kind.Number n, len)) (number_of (take len text))
+    let len = prefix_len goes_on text in
+    option_map (λ n. (kind.Number n, len)) (decimal_within greatest (take len text))
 
 unfoldable pub hex_at : List ℕ → Cut
 hex_at text = Some (kind.Hex, 2 + 2 * (prefix_len is_ascii_hexdigit (drop 2 text) / 2))
@@ -146,7 +131,7 @@ close_of text = close_from 0 text
 abbrev pub begins_block : List ℕ → Bool
 begins_block text = slice_index text 0 == 47 && slice_index text 1 == 42
 
--- how many bytes of a comment stand at the front
+-- how many bytes of a comment the text begins with
 abbrev pub closed_len : Option ℕ → ℕ
 closed_len None = 0
 closed_len (Some before) = 4 + before
@@ -165,7 +150,7 @@ front_at text =
     if is_blank (slice_index text 0) then front.Blank 1
     else (if comment_len text == 0 then front_of_cut (token_at text) else front.Blank (comment_len text))
 
--- what stands at the front takes at least one byte, and no more than there are
+-- what a text begins with takes at least one byte, and no more than there are
 abbrev pub TakesWithin : Front → ℕ → Type 0
 TakesWithin (front.Blank len) most = (0 < len) × (len ≤ most)
 TakesWithin (front.Token k len) most = (0 < len) × (len ≤ most)
@@ -173,33 +158,28 @@ TakesWithin front.Wrong most = Unit {0}
 
 -- ---- the whole text
 
-abbrev pub lexeme : Kind → ℕ → ℕ → Lexeme
-lexeme k at len = record { kind = k; from = at; to = at + len }
+-- the token that a front gives, where the text before which so many bytes stand begins with it
+abbrev pub given : Front → ℕ → List ℕ → List Placed
+given (front.Blank len) at text = []
+given (front.Token k len) at text = (token_of k (take len text), at) ∷ []
+given front.Wrong at text = (Bad, at) ∷ []
 
-abbrev pub point : Kind → ℕ → Lexeme
-point k at = record { kind = k; from = at; to = at }
-
--- what a front gives, how many bytes it takes behind its first, and whether the text goes on behind it
-abbrev pub given : Front → ℕ → List Lexeme
-given (front.Blank len) at = []
-given (front.Token k len) at = lexeme k at len ∷ []
-given front.Wrong at = point kind.Bad at ∷ []
-
+-- how many bytes it takes after its first, and whether the text goes on after it
 abbrev pub taken : Front → ℕ
 taken (front.Blank len) = len - 1
 taken (front.Token k len) = len - 1
 taken front.Wrong = 0
 
-abbrev pub on : Front → List Lexeme → List Lexeme
+abbrev pub on : Front → List Placed → List Placed
 on front.Wrong rest = []
 on _ rest = rest
 
--- the cuts of a text, before which stand so many bytes; the first number counts the bytes that are left of one
-abbrev pub cuts_from : ℕ → ℕ → List ℕ → List Lexeme
-cuts_from left at [] = point kind.End at ∷ []
+-- the tokens of a text, before which stand so many bytes; the first number counts the bytes that are left of one
+abbrev pub cuts_from : ℕ → ℕ → List ℕ → List Placed
+cuts_from left at [] = (End, at) ∷ []
 cuts_from (suc left) at (b ∷ rest) = cuts_from left (at + 1) rest
 cuts_from zero at (b ∷ rest) =
-    let f = front_at (b ∷ rest) in given f at ++ on f (cuts_from (taken f) (at + 1) rest)
+    let f = front_at (b ∷ rest) in given f at (b ∷ rest) ++ on f (cuts_from (taken f) (at + 1) rest)
 
-unfoldable pub cuts : ℕ → List ℕ → List Lexeme
+unfoldable pub cuts : ℕ → List ℕ → List Placed
 cuts at text = cuts_from 0 at text

@@ -1,5 +1,5 @@
 -- How the parser goes over the tokens, rule by rule. Only contracts of private functions name it.
-use Rattle.std.specs.Prelude.{ℕ, zero, suc, Bool, true, false, nat_eq, List, [], ◌∷◌, Option, Some, None}
+use Rattle.std.specs.Prelude.{ℕ, zero, suc, Bool, true, false, List, [], ◌∷◌, Option, Some, None}
 use Rattle.grammars.specs.Outcome.{Outcome, Got, Wrong, Deep, ◌>>=◌}
 use Rattle.grammars.specs.Heads.{expect}
 use Rattle.grammars.specs.Chain.{chained}
@@ -25,15 +25,14 @@ use Rattle.ivy_syntax.specs.declared.lexeme.Keyword.{Keyword}
 use Rattle.ivy_syntax.specs.declared.lexeme.Keyword.TheVariants as keyword
 use Rattle.ivy_syntax.specs.declared.lexeme.Symbol.{Symbol}
 use Rattle.ivy_syntax.specs.declared.lexeme.Symbol.TheVariants as symbol
-use Rattle.ivy_syntax.specs.declared.lexeme.Operator.{Operator}
-use Rattle.ivy_syntax.specs.declared.lexeme.Operator.TheVariants as operator
+use Rattle.ivy_syntax.specs.declared.level.Level.{Level}
+use Rattle.ivy_syntax.specs.declared.level.Level.TheVariants.{Or, And, Comparison, Shift, Sum, Term, Unary}
 use Rattle.ivy_syntax.specs.Token.{Token, Operation, Name, Number, Hex, Quoted}
 use Rattle.ivy_syntax.specs.Token as token
 use Rattle.ivy_syntax.specs.Tokens.{Placed}
-use Rattle.ivy_syntax.specs.Grammar.{Level, Or, And, Comparison, Shift, Sum, Term, Unary, between, before, single}
-use Rattle.ivy_syntax.specs.Grammar.{enclosed, word, unary, rank}
+use Rattle.ivy_syntax.specs.Grammar.{between, before, single, enclosed, word, unary, binary}
 
--- what reads a part at the front of the tokens
+-- what reads a part with which the tokens begin
 abbrev pub Reader : Type 0 → Type 0
 Reader V = List Placed → Outcome Placed V
 
@@ -98,54 +97,36 @@ listed read = separated (is_sign symbol.Comma) read
 
 -- ---- operators between operands
 
-abbrev pub operator_rank : Operator → ℕ
-operator_rank operator.Or = 1
-operator_rank operator.And = 2
-operator_rank operator.Equal = 3
-operator_rank operator.NotEqual = 3
-operator_rank operator.Less = 3
-operator_rank operator.LessEqual = 3
-operator_rank operator.Greater = 3
-operator_rank operator.GreaterEqual = 3
-operator_rank operator.ShiftLeft = 4
-operator_rank operator.ShiftRight = 4
-operator_rank operator.Plus = 5
-operator_rank operator.Minus = 5
-operator_rank operator.Star = 6
-operator_rank operator.Slash = 6
-operator_rank operator.Percent = 6
-operator_rank operator.Not = 0
+abbrev pub is_level : Level → Level → Bool
+is_level Or Or = true
+is_level And And = true
+is_level Comparison Comparison = true
+is_level Shift Shift = true
+is_level Sum Sum = true
+is_level Term Term = true
+is_level Unary Unary = true
+is_level _ _ = false
 
--- The rank of the level whose operands a token goes on; that of a call's parenthesis is 7, and 0 that of all others.
-abbrev pub strength : Token → ℕ
-strength (Operation o) = operator_rank o
-strength (token.Sign symbol.OpenParen) = 7
-strength _ = 0
+-- what a token is between operands: the level that it joins, and the operator of the tree
+abbrev pub joining : Token → Option (Level × Op)
+joining (Operation o) = binary o
+joining _ = None
+
+abbrev pub is_of_level : Level → Option (Level × Op) → Bool
+is_of_level level None = false
+is_of_level level (Some found) = is_level level found.0
 
 -- a token is an operator of this level
 abbrev pub joins : Level → Placed → Bool
-joins level t = nat_eq (strength t.0) (rank level)
+joins level t = is_of_level level (joining t.0)
 
-abbrev pub operation : Token → Op
-operation (Operation operator.Or) = ops.Or
-operation (Operation operator.And) = ops.And
-operation (Operation operator.Equal) = ops.Equal
-operation (Operation operator.NotEqual) = ops.NotEqual
-operation (Operation operator.Less) = ops.Less
-operation (Operation operator.LessEqual) = ops.LessEqual
-operation (Operation operator.Greater) = ops.Greater
-operation (Operation operator.GreaterEqual) = ops.GreaterEqual
-operation (Operation operator.ShiftLeft) = ops.ShiftLeft
-operation (Operation operator.ShiftRight) = ops.ShiftRight
-operation (Operation operator.Plus) = ops.Add
-operation (Operation operator.Minus) = ops.Sub
-operation (Operation operator.Star) = ops.Mul
-operation (Operation operator.Slash) = ops.Div
-operation (Operation operator.Percent) = ops.Rem
-operation _ = ops.Not
+-- the operator of the tree; any, where there is none
+abbrev pub op_of : Option (Level × Op) → Op
+op_of None = ops.Not
+op_of (Some found) = found.1
 
 abbrev pub join : Placed → Expr → Expr → Expr
-join t a b = between t.1 (operation t.0) a b
+join t a b = between t.1 (op_of (joining t.0)) a b
 
 -- operands of a level, by the reader of the next one
 abbrev pub chain_by : Level → Reader Expr → Reader Expr
@@ -216,7 +197,7 @@ close_paren = the_sign symbol.CloseParen
 abbrev pub close_bracket : Placed → Option Placed
 close_bracket = the_sign symbol.CloseBracket
 
--- the arguments of a call, behind its parenthesis
+-- the arguments of a call, after its parenthesis
 abbrev pub args_by : Reader Expr → Reader (List Expr)
 args_by expr = perhaps close_paren [] (listed expr)
 
@@ -271,7 +252,7 @@ abbrev pub group : Reader Group
 group ts = listed (expect named) ts >>= λ n. expect (the_sign symbol.Colon) n.1 >>= λ c. expect named c.1 >>= λ k.
     Got (group_of n.0 k.0) k.1
 
--- the parameters, behind their parenthesis
+-- the parameters, after their parenthesis
 abbrev pub params : Reader (List Group)
 params = perhaps close_paren [] (listed group)
 
@@ -308,7 +289,7 @@ lock_by expr at ts = expect named ts >>= λ n. expect (the_word keyword.With) n.
 abbrev pub unlock : ℕ → Reader Stmt
 unlock at ts = expect named ts >>= λ n. Got (statements.Unlock at n.0) n.1
 
--- a statement, behind its keyword
+-- a statement, after its keyword
 abbrev pub stmt_by : Reader Expr → Token → ℕ → Reader Stmt
 stmt_by expr (token.Word keyword.Verify) at ts = verify_by expr at ts
 stmt_by expr (token.Word keyword.Lock) at ts = lock_by expr at ts
@@ -336,7 +317,7 @@ abbrev pub clause_body_by : Reader Expr → Word → List Group → Reader Claus
 clause_body_by expr name groups ts = requires_by expr ts >>= λ r. expect open_brace r.1 >>= λ b.
     closed close_brace (stmts_by expr) b.1 >>= λ s. Got (clause_of name groups r.0 s.0) s.1
 
--- a clause, behind its keyword
+-- a clause, after its keyword
 abbrev pub clause_by : Reader Expr → Reader ClauseTree
 clause_by expr ts = expect named ts >>= λ n. expect open_paren n.1 >>= λ o. params o.1 >>= λ p.
     clause_body_by expr n.0 p.0 p.1
@@ -353,7 +334,7 @@ contract_body_by expr name groups ts = expect (the_word keyword.Locks) ts >>= λ
     expect open_brace v.1 >>= λ b. closed close_brace (clauses_by expr) b.1 >>= λ c.
     Got (contract_of name groups v.0 c.0) c.1
 
--- a contract, behind its keyword
+-- a contract, after its keyword
 abbrev pub contract_by : Reader Expr → Reader Contract
 contract_by expr ts = expect named ts >>= λ n. expect open_paren n.1 >>= λ o. params o.1 >>= λ p.
     contract_body_by expr n.0 p.0 p.1

@@ -1,4 +1,4 @@
--- The grammar of Ivy, over tokens with their places.
+-- The grammar of Ivy, over tokens with their places. Public statements rest on this file.
 --
 --     file = contract { contract }
 --     contract = "contract" name "(" [ params ] ")" "locks" name "{" clause { clause } "}"
@@ -24,6 +24,8 @@ use Rattle.ivy_syntax.specs.declared.lexeme.Keyword.TheVariants as keyword
 use Rattle.ivy_syntax.specs.declared.lexeme.Symbol.TheVariants as symbol
 use Rattle.ivy_syntax.specs.declared.lexeme.Operator.{Operator}
 use Rattle.ivy_syntax.specs.declared.lexeme.Operator.TheVariants as operator
+use Rattle.ivy_syntax.specs.declared.level.Level.{Level}
+use Rattle.ivy_syntax.specs.declared.level.Level.TheVariants.{Or, And, Comparison, Shift, Sum, Term, Unary}
 use Rattle.ivy_syntax.specs.Token.{Token, Name, Number, Hex, Quoted}
 use Rattle.ivy_syntax.specs.Token as token
 use Rattle.ivy_syntax.specs.Tokens.{Placed}
@@ -36,10 +38,8 @@ use Rattle.ivy_syntax.specs.Tokens.{Placed}
 --     cmp = shift [ ("=="|"!="|"<"|"<="|">"|">=") shift ]
 --     shift = sum { ("<<"|">>") sum }          sum = term { ("+"|"-") term }
 --     term = unary { ("*"|"/"|"%") unary }     unary = ("!"|"-") unary | atom
-pub data Level : Type 0 where
-  Or And Comparison Shift Sum Term Unary : Level
-
--- the next level, which binds more
+--
+-- The next level, which binds more.
 abbrev pub below : Level → Level
 below Or = And
 below And = Comparison

@@ -1,10 +1,10 @@
--- A cut of a text, as a token with its place.
-use Rattle.std.specs.Prelude.{◌≤◌, ◌+◌, ◌-◌, ◌*◌, ◌%◌, ℕ, List, [], ◌∷◌, length, take, drop, slice_range}
+-- A lexeme of the code, as a token with its place. Only contracts of private functions name it.
+use Rattle.std.specs.Prelude.{◌+◌, ◌-◌, ◌*◌, ◌%◌, ℕ, List, [], ◌∷◌, length, map, take, drop}
 use Rattle.std.specs.Char.{digit_value}
 use Rattle.ivy_syntax.specs.declared.lexeme.Kind.{Kind}
 use Rattle.ivy_syntax.specs.declared.lexeme.Kind.TheVariants as kind
 use Rattle.ivy_syntax.specs.declared.lexeme.Lexeme.{Lexeme}
-use Rattle.ivy_syntax.specs.Token.{Token, Word, Sign, Operation, Name, Number, Hex, Quoted, End, Bad, Spells}
+use Rattle.ivy_syntax.specs.Token.{Token, Word, Sign, Operation, Name, Number, Hex, Quoted, End, Bad}
 use Rattle.ivy_syntax.specs.Tokens.{Placed}
 
 -- the bytes that pairs of digits stand for
@@ -25,32 +25,9 @@ token_of kind.Quoted bytes = Quoted (take (length bytes - 2) (drop 1 bytes))
 token_of kind.End bytes = End
 token_of kind.Bad bytes = Bad
 
--- what a token is, apart from its bytes
-abbrev pub kind_of : Token → Kind
-kind_of (Word k) = kind.Word k
-kind_of (Sign s) = kind.Sign s
-kind_of (Operation o) = kind.Operation o
-kind_of (Name name) = kind.Name
-kind_of (Number n) = kind.Number n
-kind_of (Hex value) = kind.Hex
-kind_of (Quoted text) = kind.Quoted
-kind_of End = kind.End
-kind_of Bad = kind.Bad
+-- a lexeme as a token with its place
+abbrev pub placed : Lexeme → Placed
+placed lexeme = (token_of lexeme.kind lexeme.bytes.now, lexeme.at)
 
-abbrev pub placed : List ℕ → Lexeme → Placed
-placed text lexeme = (token_of lexeme.kind (slice_range text lexeme.from lexeme.to), lexeme.from)
-
-abbrev pub bytes_of : List ℕ → Lexeme → List ℕ
-bytes_of text lexeme = slice_range text lexeme.from lexeme.to
-
--- The bytes spell a token of this kind. End and Bad have none.
-abbrev pub IsSpelled : Kind → List ℕ → Type 0
-IsSpelled kind.End bytes = Unit {0}
-IsSpelled kind.Bad bytes = Unit {0}
-IsSpelled k bytes = Spells (token_of k bytes) bytes
-
--- The cut lies in the text, and its bytes there spell its token.
-pub record LiesIn (text : List ℕ) (lexeme : Lexeme) : Type 0 where
-  pub ordered : lexeme.from ≤ lexeme.to
-  pub within : lexeme.to ≤ length text
-  pub spelled : IsSpelled lexeme.kind (bytes_of text lexeme)
+abbrev pub tokens : List Lexeme → List Placed
+tokens lexemes = map placed lexemes

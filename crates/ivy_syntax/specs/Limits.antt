@@ -1,4 +1,5 @@
--- The counted limits of a text, over its tokens alone. `back` are the tokens before one, the nearest first.
+-- The counted limits of a text, over its tokens alone. `back` are the tokens before one, the nearest first. Public
+-- statements rest on this file.
 use Rattle.std.specs.Prelude.{◌≡◌, ◌<◌, ℕ, suc, Bool, true, false, ◌&&◌, not, nat_le, ◌==◌, ◌-◌, if◌then◌else◌}
 use Rattle.std.specs.Prelude.{List, [], ◌∷◌, length, reverse, take, slice_index_or, Option, Some, None, is_none}
 use Rattle.std.specs.Prelude.{option_map}
@@ -53,13 +54,13 @@ closes (Sign symbol.CloseParen) = true
 closes (Sign symbol.CloseBracket) = true
 closes _ = false
 
--- behind which a parameter stands
+-- after which a parameter stands
 abbrev pub leads_param : Kind → Bool
 leads_param (Sign symbol.OpenParen) = true
 leads_param (Sign symbol.Comma) = true
 leads_param _ = false
 
--- behind which an expression stands that is counted by itself
+-- after which an expression stands that is counted by itself
 abbrev pub leads_expression : Kind → Bool
 leads_expression (Word keyword.Verify) = true
 leads_expression (Word keyword.With) = true
@@ -76,7 +77,7 @@ begins_section _ = false
 
 -- ---- what stands before a token
 
--- how many of these stand behind the last of those
+-- how many of these stand after the last of those
 abbrev pub count_since : (Kind → Bool) → (Kind → Bool) → List Kind → ℕ
 count_since clears counts [] = 0
 count_since clears counts (t ∷ back) =
@@ -101,7 +102,7 @@ abbrev pub before : List Kind → Option Kind
 before [] = None
 before (t ∷ back) = Some t
 
--- the names behind `(` or `,` since the last section began
+-- the names after `(` or `,` since the last section began
 abbrev pub params : List Kind → ℕ
 params [] = 0
 params (t ∷ back) =
@@ -123,7 +124,7 @@ abbrev pub at_least : ℕ → Option ℕ → Bool
 at_least least None = false
 at_least least (Some n) = nat_le least n
 
--- ---- the limits, each passed by a token behind which so many stand already
+-- ---- the limits, each passed by a token after which so many stand already
 
 -- a contract is counted at its keyword
 abbrev pub passes_contracts : List Kind → Kind → Bool
@@ -156,7 +157,7 @@ takes_expressions (Word keyword.Of) = true
 takes_expressions (Word keyword.Requires) = true
 takes_expressions _ = false
 
--- a member of a list or call is counted at its first token, behind a comma
+-- a member of a list or call is counted at its first token, after a comma
 abbrev pub passes_members : List Kind → Bool
 passes_members back =
     holds is_comma (before back) && holds takes_expressions (last_of begins_section back) && at_least 16 (commas 0 back)

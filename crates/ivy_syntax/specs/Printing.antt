@@ -1,4 +1,4 @@
--- What holds of the tokens that sources are printed with.
+-- What holds of the tokens that sources are printed with. Public statements rest on this file.
 use Rattle.std.specs.Prelude.{◌≡◌, ◌≤◌, ℕ, Bool, true, false, List, ◌∷◌, ◌++◌, count_by}
 use Rattle.grammars.specs.Places.{kinds}
 use Rattle.ivy_syntax.specs.declared.tree.Source.{Source}

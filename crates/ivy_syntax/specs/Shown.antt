@@ -1,4 +1,4 @@
--- The tokens that a source is printed with.
+-- The tokens that a source is printed with. Public statements rest on this file.
 use Rattle.std.specs.Prelude.{ℕ, Bool, true, false, nat_lt, List, [], ◌∷◌, ◌++◌, map}
 use Rattle.std.specs.List.{flat_map}
 use Rattle.ivy_syntax.specs.declared.tree.Expr.{Expr, fold-Expr}
@@ -19,7 +19,9 @@ use Rattle.ivy_syntax.specs.declared.lexeme.Operator.{Operator}
 use Rattle.ivy_syntax.specs.declared.lexeme.Operator.TheVariants as operator
 use Rattle.ivy_syntax.specs.Token.{Token, Operation, Name, Number, Hex, Quoted}
 use Rattle.ivy_syntax.specs.Token as token
-use Rattle.ivy_syntax.specs.Grammar.{Level, Or, And, Comparison, Shift, Sum, Term, Unary, below, rank}
+use Rattle.ivy_syntax.specs.declared.level.Level.{Level}
+use Rattle.ivy_syntax.specs.declared.level.Level.TheVariants.{Or, And, Comparison, Shift, Sum, Term, Unary}
+use Rattle.ivy_syntax.specs.Grammar.{below, rank}
 
 -- parts with commas between them
 abbrev pub separated : List (List Token) → List Token

@@ -1,4 +1,5 @@
--- Sizes of a source: how many nodes its trees have, and how many bytes its literals.
+-- Sizes of a source: how many nodes its trees have, and how many bytes its literals. Public statements rest on this
+-- file.
 use Rattle.std.specs.Prelude.{◌≤◌, ◌+◌, ◌-◌, ◌^◌, ℕ, min, List, length, map, sum}
 use Rattle.ivy_syntax.specs.declared.tree.Expr.{Expr, fold-Expr}
 use Rattle.ivy_syntax.specs.declared.tree.Form.TheOpen.{Form-F}

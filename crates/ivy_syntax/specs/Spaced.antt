@@ -1,15 +1,12 @@
--- What is added to a text as a source is printed: tokens behind those that stand there. Only contracts of private
+-- What is added to a text as a source is printed: tokens after those that stand there. Only contracts of private
 -- functions name it.
 use Rattle.std.specs.Prelude.{ℕ, Bool, true, false, List, [], ◌∷◌}
 use Rattle.std.specs.List.{flat_map}
 use Rattle.ivy_syntax.specs.declared.lexeme.Keyword.{Keyword}
 use Rattle.ivy_syntax.specs.declared.lexeme.Keyword.TheVariants as keyword
 use Rattle.ivy_syntax.specs.declared.lexeme.Symbol.{Symbol}
-use Rattle.ivy_syntax.specs.declared.printer.Level as code
-use Rattle.ivy_syntax.specs.declared.printer.Level.TheVariants as levels
 use Rattle.ivy_syntax.specs.Token.{Token, Sign}
 use Rattle.ivy_syntax.specs.Tokens.{spelling}
-use Rattle.ivy_syntax.specs.Grammar.{Level, Or, And, Comparison, Shift, Sum, Term, Unary}
 
 -- the tokens with a space before each
 abbrev pub spaced : List Token → List ℕ
@@ -19,16 +16,6 @@ spaced tokens = flat_map (λ token. 32 ∷ spelling token) tokens
 abbrev pub sign_if : Bool → Symbol → List Token
 sign_if true symbol = Sign symbol ∷ []
 sign_if false symbol = []
-
--- the grammar's level of this name
-abbrev pub grammar_level : code.Level → Level
-grammar_level levels.Or = Or
-grammar_level levels.And = And
-grammar_level levels.Comparison = Comparison
-grammar_level levels.Shift = Shift
-grammar_level levels.Sum = Sum
-grammar_level levels.Term = Term
-grammar_level levels.Unary = Unary
 
 -- how a truth value is written
 abbrev pub truth_word : Bool → Keyword

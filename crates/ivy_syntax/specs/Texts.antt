@@ -1,13 +1,13 @@
--- Which texts are sources, and what else a text has: a fault of syntax, or too many of something.
+-- Which texts are sources, and what else a text has: a fault of syntax, or too many of something. Public statements
+-- rest on this file.
 use Rattle.std.specs.Prelude.{◌≡◌, ◌≤◌, ℕ, List, [], ◌∷◌, ◌++◌, map, reverse, Some, None, Result, Ok, Err}
 use Rattle.grammars.specs.Text.{Begins, Ended, FirstWrong}
 use Rattle.grammars.specs.Places.{kinds}
 use Rattle.ivy_syntax.specs.declared.tree.Source.{Source}
 use Rattle.ivy_syntax.specs.declared.fault.ParseFault.{ParseFault}
 use Rattle.ivy_syntax.specs.declared.fault.ParseFault.TheVariants as faults
-use Rattle.ivy_syntax.specs.Token.{Token, End}
+use Rattle.ivy_syntax.specs.Token.{Token, End, kind_of}
 use Rattle.ivy_syntax.specs.Tokens.{Placed, AreTokens}
-use Rattle.ivy_syntax.specs.Lexeme.{kind_of}
 use Rattle.ivy_syntax.specs.Grammar.{File}
 use Rattle.ivy_syntax.specs.Limits.{passes, FirstPassed}
 
@@ -99,7 +99,7 @@ IsOfSomeText source = (text : List ℕ) × ReadsAs text source
 
 -- ---- answers
 
--- what is to be answered for a text; nothing is said of want of memory
+-- what is to be answered for a text; nothing where memory runs out
 abbrev pub AnswersText : List ℕ → Result Source ParseFault → Type 0
 AnswersText text (Ok source) = ReadsAs text source
 AnswersText text (Err (faults.Syntax at)) = SyntaxAt text at

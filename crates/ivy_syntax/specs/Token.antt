@@ -1,4 +1,4 @@
--- The tokens of a text, and which bytes are a token of which kind.
+-- The tokens of a text, and which bytes are a token of which kind. Public statements rest on this file.
 use Rattle.std.specs.Prelude.{◌≡◌, ◌<◌, ◌+◌, ◌*◌, ◌^◌, ℕ, Bool, ◌&&◌, ◌||◌, not, ◌==◌, nat_le}
 use Rattle.std.specs.Prelude.{List, [], ◌∷◌, ◌++◌, codes, decimal, IsTrue}
 use Rattle.std.specs.List.{list_all}
@@ -9,6 +9,8 @@ use Rattle.ivy_syntax.specs.declared.lexeme.Symbol.{Symbol}
 use Rattle.ivy_syntax.specs.declared.lexeme.Symbol.TheVariants as symbol
 use Rattle.ivy_syntax.specs.declared.lexeme.Operator.{Operator}
 use Rattle.ivy_syntax.specs.declared.lexeme.Operator.TheVariants as operator
+use Rattle.ivy_syntax.specs.declared.lexeme.Kind.{Kind}
+use Rattle.ivy_syntax.specs.declared.lexeme.Kind.TheVariants as kind
 
 -- End is the end of the text, and Bad a byte with which no token begins.
 pub data Token : Type 0 where
@@ -21,6 +23,18 @@ pub data Token : Type 0 where
   Quoted : List ℕ → Token
   End : Token
   Bad : Token
+
+-- what a token is, apart from its bytes
+abbrev pub kind_of : Token → Kind
+kind_of (Word k) = kind.Word k
+kind_of (Sign s) = kind.Sign s
+kind_of (Operation o) = kind.Operation o
+kind_of (Name name) = kind.Name
+kind_of (Number n) = kind.Number n
+kind_of (Hex value) = kind.Hex
+kind_of (Quoted text) = kind.Quoted
+kind_of End = kind.End
+kind_of Bad = kind.Bad
 
 -- ---- words and signs, as they are written
 

@@ -1,4 +1,5 @@
--- The tokens of a text, each with its place: the number of bytes that stand before it.
+-- The tokens of a text, each with its place: the number of bytes that stand before it. Public statements rest on this
+-- file.
 use Rattle.std.specs.Prelude.{◌≡◌, ◌≤◌, ◌+◌, ◌/◌, ◌%◌, ℕ, Bool, false, not, ◌==◌, ◌||◌, List, [], ◌∷◌, ◌++◌}
 use Rattle.std.specs.Prelude.{length, map, flat_map, codes, decimal, IsTrue, IsFalse}
 use Rattle.std.specs.List.{list_all, AllByRecursion}
@@ -8,7 +9,7 @@ use Rattle.ivy_syntax.specs.Token.{letters, sign, mark, goes_on, Spells}
 
 -- ---- the token at the front of a text
 
--- A number has no letter, digit or `_` behind it.
+-- A number has no letter, digit or `_` after it.
 abbrev pub EndsBefore : Token → List ℕ → Type 0
 EndsBefore (Number n) (b ∷ rest) = IsFalse (goes_on b)
 EndsBefore _ _ = Unit {0}
@@ -42,7 +43,7 @@ LineEnds (b ∷ rest) = b ≡ 10
 abbrev pub is_in_line : ℕ → Bool
 is_in_line b = not (b == 10)
 
--- the text has a `*/` behind these bytes, and none before
+-- the text has a `*/` after these bytes, and none before
 pub record Closes (text before after : List ℕ) : Type 0 where
   pub whole : text ≡ before ++ (codes "*/" ++ after)
   pub first : (others more : List ℕ) → text ≡ others ++ (codes "*/" ++ more) → length before ≤ length others
@@ -125,7 +126,7 @@ written (token ∷ next ∷ tokens) = spelling token ++ (32 ∷ written (next �
 abbrev pub CanBeWritten : List Token → Type 0
 CanBeWritten tokens = AllByRecursion (λ token. (bytes : List ℕ) × Spells token bytes) tokens
 
--- The written text has these tokens, and End behind them.
+-- The written text has these tokens, and End after them.
 abbrev pub IsReadBack : Type 0
 IsReadBack = (tokens : List Token) → CanBeWritten tokens → (placed : List Placed)
     × AreTokens 0 (written tokens) placed × (map (λ p. p.0) placed ≡ tokens ++ (End ∷ []))

@@ -1,4 +1,4 @@
--- The counted limits by the tree: what they come to for the tokens of a source.
+-- The counted limits by the tree: what they come to for the tokens of a source. Public statements rest on this file.
 use Rattle.std.specs.Prelude.{◌↔◌, ◌≤◌, ◌+◌, ℕ, Bool, true, ◌&&◌, nat_le, IsTrue, List, length, map, sum}
 use Rattle.std.specs.List.{AllByRecursion, list_all}
 use Rattle.grammars.specs.Places.{kinds}

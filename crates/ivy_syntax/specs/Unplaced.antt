@@ -1,4 +1,4 @@
--- Trees without their places: each place is 0.
+-- Trees without their places: each place is 0. Public statements rest on this file.
 use Rattle.std.specs.Prelude.{map}
 use Rattle.ivy_syntax.specs.declared.tree.Expr.{Expr, fold-Expr}
 use Rattle.ivy_syntax.specs.declared.tree.Form.{Form}

@@ -1,6 +1,7 @@
 //! Texts, read as sources.
 
-ghost use Rattle.std.specs.Prelude.{◌≡◌, ◌≢◌, ℕ, ◌<◌, length, Result, Ok, Err, IfOk, OnOk, IfSome};
+ghost use Rattle.std.specs.Prelude.{◌≡◌, ◌≢◌, ℕ, ◌<◌, List, length, Result, Ok, Err, IfOk, OnOk, IfSome};
+ghost use Rattle.ivy_syntax.specs.Lexeme.{tokens};
 ghost use Rattle.ivy_syntax.specs.declared.tree.Source.{Source};
 ghost use Rattle.ivy_syntax.specs.declared.fault.ParseFault.{ParseFault};
 ghost use Rattle.ivy_syntax.specs.declared.fault.ParseFault.TheVariants as faults;
@@ -18,6 +19,9 @@ use wire::NoMemory;
 
 /// How many parentheses, calls, lists and unary operators may stand within one another.
 const NESTING: u64 = 32;
+
+/// The number of the limit of nesting.
+const NESTING_LIMIT: u8 = 7;
 
 /// The source that a text is. It has at most 16 contracts; a contract has at most 32 parameters and 16 clauses; a
 /// clause has at most 32 parameters, 8 requirements and 64 statements; a list or call has at most 16 members; an
@@ -46,20 +50,21 @@ fn answer(alloc: Global, text: &[u8]) -> Result<Source, ParseFault>
 {
     let mut lexemes = tokenize(alloc, text)?;
     let passed = first_passed(alloc, &lexemes)?;
-    cut_behind(&mut lexemes, passed)?;
-    read(alloc, text, &lexemes, passed)
+    cut_after(&mut lexemes, passed)?;
+    read(alloc, &lexemes, passed)
 }
 
-// Puts `Bad` in the place of the lexemes behind the one that passes a counted limit, so that no tree grows past it.
-fn cut_behind(lexemes: &mut Vec<Lexeme>, passed: Option<(usize, u8)>) -> Result<(), NoMemory>
+// Puts `Bad` in the place of the lexemes after the one that passes a counted limit, so that no tree grows past it.
+fn cut_after(lexemes: &mut Vec<Lexeme<'_>>, passed: Option<(usize, u8)>) -> Result<(), NoMemory>
     requires { IfSome passed (λ found. found.0 < length lexemes.now.items) }
-    ensures { OnOk result (lexemes.new.items ≡ answering.cut_behind lexemes.old.items passed) }
+    ensures cut { OnOk result (tokens lexemes.new.items ≡ answering.cut_after (tokens lexemes.old.items) passed) }
+    ensures within { OnOk result (IfSome passed (λ found. found.0 < length lexemes.new.items)) }
 {
     if let Some((at, _)) = passed {
         if at + 1 < lexemes.len() {
-            let from = lexemes[at + 1].from;
+            let next = lexemes[at + 1].at;
             lexemes.truncate(at + 1);
-            lexemes.push(point(Kind::Bad, from))?;
+            lexemes.push(point(Kind::Bad, next))?;
         }
     }
     Ok(())
@@ -68,14 +73,15 @@ fn cut_behind(lexemes: &mut Vec<Lexeme>, passed: Option<(usize, u8)>) -> Result<
 // The source that a text is, or its fault, by its lexemes up to the first that passes a counted limit.
 fn read(
     alloc: Global,
-    text: &[u8],
-    lexemes: &[Lexeme],
+    lexemes: &[Lexeme<'_>],
     passed: Option<(usize, u8)>,
 ) -> Result<Source, ParseFault>
-    requires { answering.IsCut text.now lexemes.now passed }
-    ensures { answering.AnswersOr text.now result }
+    requires { IfSome passed (λ found. found.0 < length lexemes.now) }
+    ensures { (text : List ℕ)
+        → answering.IsCut text (tokens lexemes.now) passed
+        → answering.AnswersOr text result }
 {
-    match file(alloc, text, lexemes, NESTING) {
+    match file(alloc, lexemes, NESTING) {
         Ok((source, rest)) => {
             unpassed(lexemes, rest, passed)?;
             if ends(rest) {
@@ -91,7 +97,7 @@ fn read(
         Err(Stop::Deep(rest)) => {
             unpassed(lexemes, rest, passed)?;
             Err(ParseFault::TooMany {
-                what: limit_there(lexemes, rest, passed),
+                what: NESTING_LIMIT,
                 at: place(rest),
             })
         }
@@ -99,18 +105,18 @@ fn read(
     }
 }
 
-// Where the first of the lexemes begins.
-fn place(rest: &[Lexeme]) -> u64
+// The place of the first of the tokens.
+fn place(rest: &[Lexeme<'_>]) -> u64
     ensures { result ≡ answering.first_place (answering.places rest.now) }
 {
     match rest {
-        [first, ..] => first.from as u64,
+        [first, ..] => first.at,
         [] => 0,
     }
 }
 
 // Whether the text ends here.
-fn ends(rest: &[Lexeme]) -> bool
+fn ends(rest: &[Lexeme<'_>]) -> bool
     ensures { result ≡ answering.ends rest.now }
 {
     matches!(
@@ -126,7 +132,7 @@ fn ends(rest: &[Lexeme]) -> bool
 }
 
 // The fault of a text of which the first of the lexemes is the first wrong token.
-fn syntax(rest: &[Lexeme]) -> ParseFault
+fn syntax(rest: &[Lexeme<'_>]) -> ParseFault
     ensures { result ≡ faults.Syntax (answering.first_place (answering.places rest.now)) }
 {
     ParseFault::Syntax { at: place(rest) }
@@ -134,8 +140,8 @@ fn syntax(rest: &[Lexeme]) -> ParseFault
 
 // The fault of a text in which a token before the last ones passes a counted limit.
 fn unpassed(
-    lexemes: &[Lexeme],
-    rest: &[Lexeme],
+    lexemes: &[Lexeme<'_>],
+    rest: &[Lexeme<'_>],
     passed: Option<(usize, u8)>,
 ) -> Result<(), ParseFault>
     requires { IfSome passed (λ found. found.0 < length lexemes.now) }
@@ -144,19 +150,8 @@ fn unpassed(
     match passed {
         Some((at, what)) if at + rest.len() < lexemes.len() => Err(ParseFault::TooMany {
             what,
-            at: lexemes[at].from as u64,
+            at: lexemes[at].at,
         }),
         _ => Ok(()),
-    }
-}
-
-// The smallest number of a limit that the first of the last lexemes passes, which stands too deep.
-fn limit_there(lexemes: &[Lexeme], rest: &[Lexeme], passed: Option<(usize, u8)>) -> u8
-    requires { IfSome passed (λ found. found.0 < length lexemes.now) }
-    ensures { result ≡ answering.limit_there (length lexemes.now) (length rest.now) passed }
-{
-    match passed {
-        Some((at, what)) if at + rest.len() == lexemes.len() && what < 7 => what,
-        _ => 7,
     }
 }

@@ -3,13 +3,13 @@
 ghost use Rattle.std.specs.Prelude.{◌≡◌};
 ghost use Rattle.ivy_syntax.specs.declared.fault.ParseFault.TheVariants as faults;
 
-use std::alloc::{AllocError, AllocFailed};
+use std::alloc::AllocFailed;
 use wire::NoMemory;
 
 /// Why a text could not be read. A place is the number of bytes that stand before it.
 #[derive(Clone, Copy, Debug, PartialEq, Eq)]
 pub enum ParseFault {
-    /// The place of the first token with which no source goes on behind the tokens before it. The text's end and a
+    /// The place of the first token with which no source goes on after the tokens before it. The text's end and a
     /// byte with which no token begins count as tokens.
     Syntax { at: u64 },
     /// The place of the first token that passes a limit, and the number of the limit, the smallest where it passes
@@ -25,14 +25,6 @@ impl From<NoMemory> for ParseFault {
     ghost from_gives = { λ _ fault. fault ≡ faults.NoMemory };
 
     fn from(_: NoMemory) -> ParseFault {
-        ParseFault::NoMemory
-    }
-}
-
-impl From<AllocError> for ParseFault {
-    ghost from_gives = { λ _ fault. fault ≡ faults.NoMemory };
-
-    fn from(_: AllocError) -> ParseFault {
         ParseFault::NoMemory
     }
 }

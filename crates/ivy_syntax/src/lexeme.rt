@@ -4,7 +4,7 @@ ghost use Rattle.std.specs.Prelude.{◌≡◌};
 ghost use Rattle.ivy_syntax.specs.Token as spec;
 
 /// A word with a meaning of its own, which is no name.
-#[derive(Clone, Copy, Debug, PartialEq, Eq)]
+#[derive(Clone, Copy, PartialEq)]
 pub(crate) enum Keyword {
     Contract,
     Clause,
@@ -56,7 +56,7 @@ impl Keyword {
 }
 
 /// A bracket, a comma or a colon.
-#[derive(Clone, Copy, Debug, PartialEq, Eq)]
+#[derive(Clone, Copy, PartialEq)]
 pub(crate) enum Symbol {
     OpenParen,
     CloseParen,
@@ -69,7 +69,7 @@ pub(crate) enum Symbol {
 }
 
 /// An operator, as it is written: `Minus` stands before an operand or between two.
-#[derive(Clone, Copy, Debug, PartialEq, Eq)]
+#[derive(Clone, Copy)]
 pub(crate) enum Operator {
     Or,
     And,
@@ -90,7 +90,7 @@ pub(crate) enum Operator {
 }
 
 /// What a token is, apart from its bytes. `End` is the end of the text, and `Bad` a byte that begins no token.
-#[derive(Clone, Copy, Debug, PartialEq, Eq)]
+#[derive(Clone, Copy)]
 pub(crate) enum Kind {
     Word(Keyword),
     Sign(Symbol),
@@ -103,16 +103,16 @@ pub(crate) enum Kind {
     Bad,
 }
 
-/// A token of a text: its first byte, and the first byte behind it. At `End` and `Bad` the two are one.
-#[derive(Clone, Copy, Debug, PartialEq, Eq)]
-pub(crate) struct Lexeme {
+/// A token of a text: its bytes, and how many stand before them. `End` and `Bad` have none.
+#[derive(Clone, Copy)]
+pub(crate) struct Lexeme<'a> {
     pub kind: Kind,
-    pub from: usize,
-    pub to: usize,
+    pub bytes: &'a [u8],
+    pub at: u64,
 }
 
-/// What stands at the front of a text: so many bytes of a blank or a comment, a token of so many bytes, or neither.
-#[derive(Clone, Copy, Debug, PartialEq, Eq)]
+/// What a text begins with: so many bytes of a blank or a comment, a token of so many bytes, or neither.
+#[derive(Clone, Copy)]
 pub(crate) enum Front {
     Blank(usize),
     Token(Kind, usize),

@@ -1,4 +1,4 @@
-//! The counted limits of a text, told from its tokens alone. The nesting of expressions is no part of it.
+//! The counted limits of a text, found from its tokens alone. The nesting of expressions is no part of it.
 
 ghost use Rattle.std.specs.Prelude.{◌≡◌, ◌++◌, [], ◌∷◌, ◌&&◌, nat_le, map, reverse, Some, None, IfOk, OnOk};
 ghost use Rattle.ivy_syntax.specs.Limits as spec;
@@ -284,7 +284,7 @@ fn at_least_16(count: Option<u64>) -> bool
 /// statements of a clause, 8 members of a list or call, 9 operators of an expression.
 pub(crate) fn first_passed(
     alloc: Global,
-    lexemes: &[Lexeme],
+    lexemes: &[Lexeme<'_>],
 ) -> Result<Option<(usize, u8)>, NoMemory>
     ensures { IfOk result (λ found. spec.FirstPassed (map (λ l. l.kind) lexemes.now) found) }
 {

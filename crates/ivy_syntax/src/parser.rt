@@ -1,8 +1,7 @@
 //! The grammar of Ivy, rule by rule over the tokens of a text.
 
-ghost use Rattle.std.specs.Prelude.{◌≡◌, [], map};
 ghost use Rattle.grammars.specs.Heads.{expect};
-ghost use Rattle.ivy_syntax.specs.Lexeme.{placed, token_of, bytes_of};
+ghost use Rattle.ivy_syntax.specs.Lexeme.{placed, tokens};
 ghost use Rattle.ivy_syntax.specs.Descent.{expr_at, named, listed, group, params, amount_by, req_by, requires_by};
 ghost use Rattle.ivy_syntax.specs.Descent.{stmt_by, stmts_by, verify_by, lock_by, unlock, clause_by, clauses_by};
 ghost use Rattle.ivy_syntax.specs.Descent.{clause_body_by, contract_by, contract_body_by, contracts_by, file_at};
@@ -10,7 +9,8 @@ ghost use Rattle.ivy_syntax.specs.Agreement.{Agrees};
 
 use crate::expr::expr;
 use crate::lexeme::{Keyword, Kind, Lexeme, Symbol};
-use crate::reading::{Read, Wanted, expected, name, next_if};
+use crate::lists::{Part, repeated, separated};
+use crate::reading::{Read, Rest, Wanted, expected, name, next_if};
 use crate::tree::{
     ClauseTree, ClauseTrees, Contract, Contracts, Group, Groups, Req, Reqs, Source, Stmt, Stmts,
     Word, Words,
@@ -19,55 +19,51 @@ use std::alloc::Global;
 
 // ---- parameters
 
-// name { "," name }
-fn names<'a>(alloc: Global, text: &[u8], rest: &'a [Lexeme]) -> Read<'a, Words>
-    ensures { Agrees text.now result (listed (expect named) (map (placed text.now) rest.now)) }
-{
-    let (first, mut rest) = name(alloc, text, rest)?;
-    let mut items = Words::new(alloc);
-    items.push(first)?;
-    while let Some((_, behind)) = next_if(text, rest, Wanted::Sign(Symbol::Comma)) {
-        let (item, left_over) = name(alloc, text, behind)?;
-        items.push(item)?;
-        rest = left_over;
+// A name, of a list.
+struct NamePart;
+
+impl Part for NamePart {
+    type Tree = Word;
+
+    ghost rule = { λ part. expect named };
+
+    fn read<'a>(&self, alloc: Global, rest: Rest<'a>) -> Read<'a, Word> {
+        name(alloc, rest)
     }
-    Ok((items, rest))
 }
 
 // names ":" name
-fn group<'a>(alloc: Global, text: &[u8], rest: &'a [Lexeme]) -> Read<'a, Group>
-    ensures { Agrees text.now result (group (map (placed text.now) rest.now)) }
+fn group<'a>(alloc: Global, rest: Rest<'a>) -> Read<'a, Group>
+    ensures { Agrees result (group (tokens rest.now)) }
 {
-    let (names, rest) = names(alloc, text, rest)?;
-    let (_, rest) = expected(text, rest, Wanted::Sign(Symbol::Colon))?;
-    let (kind, rest) = name(alloc, text, rest)?;
+    let (names, rest) = separated(alloc, &NamePart, rest)?;
+    let (_, rest) = expected(rest, Wanted::Sign(Symbol::Colon))?;
+    let (kind, rest) = name(alloc, rest)?;
     Ok((Group { names, kind }, rest))
 }
 
-// group { "," group }
-fn groups<'a>(alloc: Global, text: &[u8], rest: &'a [Lexeme]) -> Read<'a, Groups>
-    ensures { Agrees text.now result (listed group (map (placed text.now) rest.now)) }
-{
-    let (first, mut rest) = group(alloc, text, rest)?;
-    let mut items = Groups::new(alloc);
-    items.push(first)?;
-    while let Some((_, behind)) = next_if(text, rest, Wanted::Sign(Symbol::Comma)) {
-        let (item, left_over) = group(alloc, text, behind)?;
-        items.push(item)?;
-        rest = left_over;
+// A group, of a list.
+struct GroupPart;
+
+impl Part for GroupPart {
+    type Tree = Group;
+
+    ghost rule = { λ part. group };
+
+    fn read<'a>(&self, alloc: Global, rest: Rest<'a>) -> Read<'a, Group> {
+        group(alloc, rest)
     }
-    Ok((items, rest))
 }
 
-// Parameters, behind their parenthesis, and the one behind them.
-fn params<'a>(alloc: Global, text: &[u8], rest: &'a [Lexeme]) -> Read<'a, Groups>
-    ensures { Agrees text.now result (params (map (placed text.now) rest.now)) }
+// Parameters, after their parenthesis, and the one after them.
+fn params<'a>(alloc: Global, rest: Rest<'a>) -> Read<'a, Groups>
+    ensures { Agrees result (params (tokens rest.now)) }
 {
-    match next_if(text, rest, Wanted::Sign(Symbol::CloseParen)) {
+    match next_if(rest, Wanted::Sign(Symbol::CloseParen)) {
         Some((_, behind)) => Ok((Groups::new(alloc), behind)),
         None => {
-            let (items, rest) = groups(alloc, text, rest)?;
-            let (_, rest) = expected(text, rest, Wanted::Sign(Symbol::CloseParen))?;
+            let (items, rest) = separated(alloc, &GroupPart, rest)?;
+            let (_, rest) = expected(rest, Wanted::Sign(Symbol::CloseParen))?;
             Ok((items, rest))
         }
     }
@@ -76,18 +72,12 @@ fn params<'a>(alloc: Global, text: &[u8], rest: &'a [Lexeme]) -> Read<'a, Groups
 // ---- requirements
 
 // An amount, and of what.
-fn amount<'a>(
-    alloc: Global,
-    text: &[u8],
-    rest: &'a [Lexeme],
-    depth: u64,
-    name: Word,
-) -> Read<'a, Req>
-    ensures { Agrees text.now result (amount_by (expr_at depth) name (map (placed text.now) rest.now)) }
+fn amount<'a>(alloc: Global, rest: Rest<'a>, depth: u64, name: Word) -> Read<'a, Req>
+    ensures { Agrees result (amount_by (expr_at depth) name (tokens rest.now)) }
 {
-    let (amount, rest) = expr(alloc, text, rest, depth)?;
-    let (_, rest) = expected(text, rest, Wanted::Word(Keyword::Of))?;
-    let (asset, rest) = expr(alloc, text, rest, depth)?;
+    let (amount, rest) = expr(alloc, rest, depth)?;
+    let (_, rest) = expected(rest, Wanted::Word(Keyword::Of))?;
+    let (asset, rest) = expr(alloc, rest, depth)?;
     let req = Req {
         name,
         amount,
@@ -97,111 +87,90 @@ fn amount<'a>(
 }
 
 // name ":" expr "of" expr
-fn req<'a>(alloc: Global, text: &[u8], rest: &'a [Lexeme], depth: u64) -> Read<'a, Req>
-    ensures { Agrees text.now result (req_by (expr_at depth) (map (placed text.now) rest.now)) }
+fn req<'a>(alloc: Global, rest: Rest<'a>, depth: u64) -> Read<'a, Req>
+    ensures { Agrees result (req_by (expr_at depth) (tokens rest.now)) }
 {
-    let (name, rest) = name(alloc, text, rest)?;
-    let (_, rest) = expected(text, rest, Wanted::Sign(Symbol::Colon))?;
-    amount(alloc, text, rest, depth, name)
+    let (name, rest) = name(alloc, rest)?;
+    let (_, rest) = expected(rest, Wanted::Sign(Symbol::Colon))?;
+    amount(alloc, rest, depth, name)
 }
 
-// req { "," req }
-fn reqs<'a>(alloc: Global, text: &[u8], rest: &'a [Lexeme], depth: u64) -> Read<'a, Reqs>
-    ensures { Agrees text.now result (listed (req_by (expr_at depth)) (map (placed text.now) rest.now)) }
-{
-    let (first, mut rest) = req(alloc, text, rest, depth)?;
-    let mut items = Reqs::new(alloc);
-    items.push(first)?;
-    while let Some((_, behind)) = next_if(text, rest, Wanted::Sign(Symbol::Comma)) {
-        let (item, left_over) = req(alloc, text, behind, depth)?;
-        items.push(item)?;
-        rest = left_over;
+// A requirement, of a list.
+#[derive(Drop)]
+struct ReqPart {
+    depth: u64,
+}
+
+impl Part for ReqPart {
+    type Tree = Req;
+
+    ghost rule = { λ part. req_by (expr_at part.depth) };
+
+    fn read<'a>(&self, alloc: Global, rest: Rest<'a>) -> Read<'a, Req> {
+        req(alloc, rest, self.depth)
     }
-    Ok((items, rest))
 }
 
 // [ "requires" reqs ]
-fn requires_part<'a>(alloc: Global, text: &[u8], rest: &'a [Lexeme], depth: u64) -> Read<'a, Reqs>
-    ensures { Agrees text.now result (requires_by (expr_at depth) (map (placed text.now) rest.now)) }
+fn requires_part<'a>(alloc: Global, rest: Rest<'a>, depth: u64) -> Read<'a, Reqs>
+    ensures { Agrees result (requires_by (expr_at depth) (tokens rest.now)) }
 {
-    match next_if(text, rest, Wanted::Word(Keyword::Requires)) {
-        Some((_, behind)) => reqs(alloc, text, behind, depth),
+    match next_if(rest, Wanted::Word(Keyword::Requires)) {
+        Some((_, behind)) => separated(alloc, &ReqPart { depth }, behind),
         None => Ok((Reqs::new(alloc), rest)),
     }
 }
 
 // ---- statements
 
-// Behind `verify`.
-fn verify<'a>(
-    alloc: Global,
-    text: &[u8],
-    rest: &'a [Lexeme],
-    depth: u64,
-    first: Lexeme,
-) -> Read<'a, Stmt>
-    ensures { Agrees text.now result (verify_by (expr_at depth) first.from (map (placed text.now) rest.now)) }
+// After `verify`.
+fn verify<'a>(alloc: Global, rest: Rest<'a>, depth: u64, at: u64) -> Read<'a, Stmt>
+    ensures { Agrees result (verify_by (expr_at depth) at (tokens rest.now)) }
 {
-    let (expr, rest) = expr(alloc, text, rest, depth)?;
-    let at = first.from as u64;
+    let (expr, rest) = expr(alloc, rest, depth)?;
     Ok((Stmt::Verify { at, expr }, rest))
 }
 
-// Behind `lock`.
-fn lock<'a>(
-    alloc: Global,
-    text: &[u8],
-    rest: &'a [Lexeme],
-    depth: u64,
-    first: Lexeme,
-) -> Read<'a, Stmt>
-    ensures { Agrees text.now result (lock_by (expr_at depth) first.from (map (placed text.now) rest.now)) }
+// After `lock`.
+fn lock<'a>(alloc: Global, rest: Rest<'a>, depth: u64, at: u64) -> Read<'a, Stmt>
+    ensures { Agrees result (lock_by (expr_at depth) at (tokens rest.now)) }
 {
-    let (value, rest) = name(alloc, text, rest)?;
-    let (_, rest) = expected(text, rest, Wanted::Word(Keyword::With))?;
-    let (program, rest) = expr(alloc, text, rest, depth)?;
-    let at = first.from as u64;
+    let (value, rest) = name(alloc, rest)?;
+    let (_, rest) = expected(rest, Wanted::Word(Keyword::With))?;
+    let (program, rest) = expr(alloc, rest, depth)?;
     let stmt = Stmt::Lock { at, value, program };
     Ok((stmt, rest))
 }
 
-// Behind `unlock`.
-fn unlock<'a>(alloc: Global, text: &[u8], rest: &'a [Lexeme], first: Lexeme) -> Read<'a, Stmt>
-    ensures { Agrees text.now result (unlock first.from (map (placed text.now) rest.now)) }
+// After `unlock`.
+fn unlock<'a>(alloc: Global, rest: Rest<'a>, at: u64) -> Read<'a, Stmt>
+    ensures { Agrees result (unlock at (tokens rest.now)) }
 {
-    let (value, rest) = name(alloc, text, rest)?;
-    let at = first.from as u64;
+    let (value, rest) = name(alloc, rest)?;
     Ok((Stmt::Unlock { at, value }, rest))
 }
 
-// A statement, behind its keyword.
-fn stmt<'a>(
-    alloc: Global,
-    text: &[u8],
-    rest: &'a [Lexeme],
-    depth: u64,
-    first: Lexeme,
-) -> Read<'a, Stmt>
-    ensures { Agrees text.now result (stmt_by (expr_at depth) (token_of first.kind (bytes_of text.now first)) first.from
-        (map (placed text.now) rest.now)) }
+// A statement, after its keyword.
+fn stmt<'a>(alloc: Global, rest: Rest<'a>, depth: u64, first: Lexeme<'a>) -> Read<'a, Stmt>
+    ensures { Agrees result (stmt_by (expr_at depth) (placed first.entry).0 first.entry.at (tokens rest.now)) }
 {
     match first.kind {
-        Kind::Word(Keyword::Verify) => verify(alloc, text, rest, depth, first),
-        Kind::Word(Keyword::Lock) => lock(alloc, text, rest, depth, first),
-        _ => unlock(alloc, text, rest, first),
+        Kind::Word(Keyword::Verify) => verify(alloc, rest, depth, first.at),
+        Kind::Word(Keyword::Lock) => lock(alloc, rest, depth, first.at),
+        _ => unlock(alloc, rest, first.at),
     }
 }
 
 // stmt { stmt }
-fn stmts<'a>(alloc: Global, text: &[u8], rest: &'a [Lexeme], depth: u64) -> Read<'a, Stmts>
-    ensures { Agrees text.now result (stmts_by (expr_at depth) (map (placed text.now) rest.now)) }
+fn stmts<'a>(alloc: Global, rest: Rest<'a>, depth: u64) -> Read<'a, Stmts>
+    ensures { Agrees result (stmts_by (expr_at depth) (tokens rest.now)) }
 {
-    let (keyword, behind) = expected(text, rest, Wanted::Statement)?;
-    let (first, mut rest) = stmt(alloc, text, behind, depth, keyword)?;
+    let (keyword, behind) = expected(rest, Wanted::Statement)?;
+    let (first, mut rest) = stmt(alloc, behind, depth, keyword)?;
     let mut items = Stmts::new(alloc);
     items.push(first)?;
-    while let Some((keyword, behind)) = next_if(text, rest, Wanted::Statement) {
-        let (item, left_over) = stmt(alloc, text, behind, depth, keyword)?;
+    while let Some((keyword, behind)) = next_if(rest, Wanted::Statement) {
+        let (item, left_over) = stmt(alloc, behind, depth, keyword)?;
         items.push(item)?;
         rest = left_over;
     }
@@ -213,19 +182,18 @@ fn stmts<'a>(alloc: Global, text: &[u8], rest: &'a [Lexeme], depth: u64) -> Read
 // The requirements of a clause, and its statements in braces.
 fn clause_body<'a>(
     alloc: Global,
-    text: &[u8],
-    rest: &'a [Lexeme],
+    rest: Rest<'a>,
     depth: u64,
     name: Word,
     params: Groups,
 ) -> Read<'a, ClauseTree>
-    ensures { Agrees text.now result
-        (clause_body_by (expr_at depth) name params (map (placed text.now) rest.now)) }
+    ensures { Agrees result
+        (clause_body_by (expr_at depth) name params (tokens rest.now)) }
 {
-    let (reqs, rest) = requires_part(alloc, text, rest, depth)?;
-    let (_, rest) = expected(text, rest, Wanted::Sign(Symbol::OpenBrace))?;
-    let (stmts, rest) = stmts(alloc, text, rest, depth)?;
-    let (_, rest) = expected(text, rest, Wanted::Sign(Symbol::CloseBrace))?;
+    let (reqs, rest) = requires_part(alloc, rest, depth)?;
+    let (_, rest) = expected(rest, Wanted::Sign(Symbol::OpenBrace))?;
+    let (stmts, rest) = stmts(alloc, rest, depth)?;
+    let (_, rest) = expected(rest, Wanted::Sign(Symbol::CloseBrace))?;
     let clause = ClauseTree {
         name,
         params,
@@ -235,30 +203,30 @@ fn clause_body<'a>(
     Ok((clause, rest))
 }
 
-// A clause, behind its keyword.
-fn clause<'a>(alloc: Global, text: &[u8], rest: &'a [Lexeme], depth: u64) -> Read<'a, ClauseTree>
-    ensures { Agrees text.now result (clause_by (expr_at depth) (map (placed text.now) rest.now)) }
+// A clause, after its keyword.
+fn clause<'a>(alloc: Global, rest: Rest<'a>, depth: u64) -> Read<'a, ClauseTree>
+    ensures { Agrees result (clause_by (expr_at depth) (tokens rest.now)) }
 {
-    let (name, rest) = name(alloc, text, rest)?;
-    let (_, rest) = expected(text, rest, Wanted::Sign(Symbol::OpenParen))?;
-    let (params, rest) = params(alloc, text, rest)?;
-    clause_body(alloc, text, rest, depth, name, params)
+    let (name, rest) = name(alloc, rest)?;
+    let (_, rest) = expected(rest, Wanted::Sign(Symbol::OpenParen))?;
+    let (params, rest) = params(alloc, rest)?;
+    clause_body(alloc, rest, depth, name, params)
 }
 
-// clause { clause }
-fn clauses<'a>(alloc: Global, text: &[u8], rest: &'a [Lexeme], depth: u64) -> Read<'a, ClauseTrees>
-    ensures { Agrees text.now result (clauses_by (expr_at depth) (map (placed text.now) rest.now)) }
-{
-    let (_, behind) = expected(text, rest, Wanted::Word(Keyword::Clause))?;
-    let (first, mut rest) = clause(alloc, text, behind, depth)?;
-    let mut items = ClauseTrees::new(alloc);
-    items.push(first)?;
-    while let Some((_, behind)) = next_if(text, rest, Wanted::Word(Keyword::Clause)) {
-        let (item, left_over) = clause(alloc, text, behind, depth)?;
-        items.push(item)?;
-        rest = left_over;
+// A clause, after its keyword.
+#[derive(Drop)]
+struct ClausePart {
+    depth: u64,
+}
+
+impl Part for ClausePart {
+    type Tree = ClauseTree;
+
+    ghost rule = { λ part. clause_by (expr_at part.depth) };
+
+    fn read<'a>(&self, alloc: Global, rest: Rest<'a>) -> Read<'a, ClauseTree> {
+        clause(alloc, rest, self.depth)
     }
-    Ok((items, rest))
 }
 
 // ---- contracts
@@ -266,20 +234,19 @@ fn clauses<'a>(alloc: Global, text: &[u8], rest: &'a [Lexeme], depth: u64) -> Re
 // What a contract locks, and its clauses in braces.
 fn contract_body<'a>(
     alloc: Global,
-    text: &[u8],
-    rest: &'a [Lexeme],
+    rest: Rest<'a>,
     depth: u64,
     title: Word,
     params: Groups,
 ) -> Read<'a, Contract>
-    ensures { Agrees text.now result
-        (contract_body_by (expr_at depth) title params (map (placed text.now) rest.now)) }
+    ensures { Agrees result
+        (contract_body_by (expr_at depth) title params (tokens rest.now)) }
 {
-    let (_, rest) = expected(text, rest, Wanted::Word(Keyword::Locks))?;
-    let (value, rest) = name(alloc, text, rest)?;
-    let (_, rest) = expected(text, rest, Wanted::Sign(Symbol::OpenBrace))?;
-    let (clauses, rest) = clauses(alloc, text, rest, depth)?;
-    let (_, rest) = expected(text, rest, Wanted::Sign(Symbol::CloseBrace))?;
+    let (_, rest) = expected(rest, Wanted::Word(Keyword::Locks))?;
+    let (value, rest) = name(alloc, rest)?;
+    let (_, rest) = expected(rest, Wanted::Sign(Symbol::OpenBrace))?;
+    let (clauses, rest) = repeated(alloc, Keyword::Clause, &ClausePart { depth }, rest)?;
+    let (_, rest) = expected(rest, Wanted::Sign(Symbol::CloseBrace))?;
     let contract = Contract {
         name: title,
         params,
@@ -289,41 +256,36 @@ fn contract_body<'a>(
     Ok((contract, rest))
 }
 
-// A contract, behind its keyword.
-fn contract<'a>(alloc: Global, text: &[u8], rest: &'a [Lexeme], depth: u64) -> Read<'a, Contract>
-    ensures { Agrees text.now result (contract_by (expr_at depth) (map (placed text.now) rest.now)) }
+// A contract, after its keyword.
+fn contract<'a>(alloc: Global, rest: Rest<'a>, depth: u64) -> Read<'a, Contract>
+    ensures { Agrees result (contract_by (expr_at depth) (tokens rest.now)) }
 {
-    let (name, rest) = name(alloc, text, rest)?;
-    let (_, rest) = expected(text, rest, Wanted::Sign(Symbol::OpenParen))?;
-    let (params, rest) = params(alloc, text, rest)?;
-    contract_body(alloc, text, rest, depth, name, params)
+    let (name, rest) = name(alloc, rest)?;
+    let (_, rest) = expected(rest, Wanted::Sign(Symbol::OpenParen))?;
+    let (params, rest) = params(alloc, rest)?;
+    contract_body(alloc, rest, depth, name, params)
 }
 
-// contract { contract }
-fn contracts<'a>(alloc: Global, text: &[u8], rest: &'a [Lexeme], depth: u64) -> Read<'a, Contracts>
-    ensures { Agrees text.now result (contracts_by (expr_at depth) (map (placed text.now) rest.now)) }
-{
-    let (_, behind) = expected(text, rest, Wanted::Word(Keyword::Contract))?;
-    let (first, mut rest) = contract(alloc, text, behind, depth)?;
-    let mut items = Contracts::new(alloc);
-    items.push(first)?;
-    while let Some((_, behind)) = next_if(text, rest, Wanted::Word(Keyword::Contract)) {
-        let (item, left_over) = contract(alloc, text, behind, depth)?;
-        items.push(item)?;
-        rest = left_over;
-    }
-    Ok((items, rest))
-}
-
-/// A whole source, and the tokens behind it.
-pub(crate) fn file<'a>(
-    alloc: Global,
-    text: &[u8],
-    rest: &'a [Lexeme],
+// A contract, after its keyword.
+#[derive(Drop)]
+struct ContractPart {
     depth: u64,
-) -> Read<'a, Source>
-    ensures { Agrees text.now result (file_at depth (map (placed text.now) rest.now)) }
+}
+
+impl Part for ContractPart {
+    type Tree = Contract;
+
+    ghost rule = { λ part. contract_by (expr_at part.depth) };
+
+    fn read<'a>(&self, alloc: Global, rest: Rest<'a>) -> Read<'a, Contract> {
+        contract(alloc, rest, self.depth)
+    }
+}
+
+/// A whole source, and the tokens after it.
+pub(crate) fn file<'a>(alloc: Global, rest: Rest<'a>, depth: u64) -> Read<'a, Source>
+    ensures { Agrees result (file_at depth (tokens rest.now)) }
 {
-    let (contracts, rest) = contracts(alloc, text, rest, depth)?;
+    let (contracts, rest) = repeated(alloc, Keyword::Contract, &ContractPart { depth }, rest)?;
     Ok((Source { contracts }, rest))
 }

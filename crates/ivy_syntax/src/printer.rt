@@ -9,11 +9,11 @@ ghost use Rattle.ivy_syntax.specs.declared.lexeme.Symbol.TheVariants as symbol;
 ghost use Rattle.ivy_syntax.specs.Token.{Token, sign, mark};
 ghost use Rattle.ivy_syntax.specs.Token as token;
 ghost use Rattle.ivy_syntax.specs.Tokens.{CanBeWritten, digits_of, written};
-ghost use Rattle.ivy_syntax.specs.Grammar.{below, rank};
-ghost use Rattle.ivy_syntax.specs.Grammar as grammar;
+ghost use Rattle.ivy_syntax.specs.declared.level.Level.TheVariants as levels;
 ghost use Rattle.ivy_syntax.specs.Shown as shown;
-ghost use Rattle.ivy_syntax.specs.Spaced.{spaced, sign_if, grammar_level, truth_word};
+ghost use Rattle.ivy_syntax.specs.Spaced.{spaced, sign_if, truth_word};
 
+use crate::level::Level;
 use crate::lexeme::{Keyword, Operator, Symbol};
 use crate::{ClauseTree, Contract, Expr, Form, Group, Op, Req, Source, Stmt, Text, Word};
 use std::alloc::Global;
@@ -220,7 +220,7 @@ fn put_words(text: &mut Bytes, words: &[Word]) -> Result<(), NoMemory>
 #[cycle(expressions)]
 #[tactic(auto, using(crate::proofs::PrintedParts::expressions))]
 fn put_expr(alloc: Global, text: &mut Bytes, expr: &Expr, place: Level) -> Result<(), NoMemory>
-    ensures { OnOk result (text.new ≡ text.old ++ spaced (shown.tokens_at (grammar_level place) expr.now)) }
+    ensures { OnOk result (text.new ≡ text.old ++ spaced (shown.tokens_at place expr.now)) }
 {
     match &expr.form {
         Form::Number(n) => put_number(alloc, text, *n),
@@ -240,7 +240,7 @@ fn put_expr(alloc: Global, text: &mut Bytes, expr: &Expr, place: Level) -> Resul
             put_sign_if(text, enclosed, Symbol::OpenParen)?;
             put_expr(alloc, text, left.get(), left_level(level))?;
             put_operator(text, *op)?;
-            put_expr(alloc, text, right.get(), below(level))?;
+            put_expr(alloc, text, right.get(), level.below())?;
             put_sign_if(text, enclosed, Symbol::CloseParen)
         }
     }
@@ -251,7 +251,7 @@ fn put_expr(alloc: Global, text: &mut Bytes, expr: &Expr, place: Level) -> Resul
 fn put_call(alloc: Global, text: &mut Bytes, name: &Text, args: &[Expr]) -> Result<(), NoMemory>
     ensures { OnOk result (text.new ≡ text.old
         ++ spaced (token.Name name.now ∷ shown.enclosed_if true (shown.separated
-        (map (shown.tokens_at grammar.Or) args.now)))) }
+        (map (shown.tokens_at levels.Or) args.now)))) }
 {
     put_name(text, name)?;
     put_sign(text, Symbol::OpenParen)?;
@@ -263,7 +263,7 @@ fn put_call(alloc: Global, text: &mut Bytes, name: &Text, args: &[Expr]) -> Resu
 #[cycle(expressions)]
 fn put_members(alloc: Global, text: &mut Bytes, items: &[Expr]) -> Result<(), NoMemory>
     ensures { OnOk result (text.new ≡ text.old
-        ++ spaced (token.Sign symbol.OpenBracket ∷ (shown.separated (map (shown.tokens_at grammar.Or) items.now)
+        ++ spaced (token.Sign symbol.OpenBracket ∷ (shown.separated (map (shown.tokens_at levels.Or) items.now)
         ++ (token.Sign symbol.CloseBracket ∷ [])))) }
 {
     put_sign(text, Symbol::OpenBracket)?;
@@ -275,7 +275,7 @@ fn put_members(alloc: Global, text: &mut Bytes, items: &[Expr]) -> Result<(), No
 #[cycle(expressions)]
 fn put_exprs(alloc: Global, text: &mut Bytes, exprs: &[Expr]) -> Result<(), NoMemory>
     ensures { OnOk result (text.new ≡ text.old
-        ++ spaced (shown.separated (map (shown.tokens_at grammar.Or) exprs.now))) }
+        ++ spaced (shown.separated (map (shown.tokens_at levels.Or) exprs.now))) }
 {
     for (at, expr) in exprs.iter().enumerate() {
         put_sign_if(text, at > 0, Symbol::Comma)?;
@@ -286,21 +286,9 @@ fn put_exprs(alloc: Global, text: &mut Bytes, exprs: &[Expr]) -> Result<(), NoMe
 
 // ---- levels
 
-// A level of expressions. The first binds least.
-#[derive(Clone, Copy)]
-enum Level {
-    Or,
-    And,
-    Comparison,
-    Shift,
-    Sum,
-    Term,
-    Unary,
-}
-
 // The level of an operator.
 fn level_of(op: Op) -> Level
-    ensures { grammar_level result ≡ shown.level_of op }
+    ensures { result ≡ shown.level_of op }
 {
     match op {
         Op::Or => Level::Or,
@@ -314,38 +302,9 @@ fn level_of(op: Op) -> Level
     }
 }
 
-// How strongly a level binds.
-fn rank(level: Level) -> u8
-    ensures { result ≡ rank (grammar_level level) }
-{
-    match level {
-        Level::Or => 1,
-        Level::And => 2,
-        Level::Comparison => 3,
-        Level::Shift => 4,
-        Level::Sum => 5,
-        Level::Term => 6,
-        Level::Unary => 7,
-    }
-}
-
-// The next level, which binds more.
-fn below(level: Level) -> Level
-    ensures { grammar_level result ≡ below (grammar_level level) }
-{
-    match level {
-        Level::Or => Level::And,
-        Level::And => Level::Comparison,
-        Level::Comparison => Level::Shift,
-        Level::Shift => Level::Sum,
-        Level::Sum => Level::Term,
-        Level::Term | Level::Unary => Level::Unary,
-    }
-}
-
 // The level that reads the left operand of an operator of this level.
 fn left_level(level: Level) -> Level
-    ensures { grammar_level result ≡ shown.left_level (grammar_level level) }
+    ensures { result ≡ shown.left_level level }
 {
     match level {
         Level::Comparison => Level::Shift,
@@ -355,9 +314,9 @@ fn left_level(level: Level) -> Level
 
 // What has an operator of the one level stands in parentheses where the other reads it.
 fn is_enclosed(own: Level, place: Level) -> bool
-    ensures { result ≡ shown.is_enclosed (grammar_level own) (grammar_level place) }
+    ensures { result ≡ shown.is_enclosed own place }
 {
-    rank(own) < rank(place)
+    own.rank() < place.rank()
 }
 
 // ---- tokens

@@ -1,31 +1,33 @@
 //! The tokens of a text one by one, and what reading a part of it gives.
 
-ghost use Rattle.std.specs.Prelude.{◌≡◌, ◌≤◌, ℕ, List, [], ◌∷◌, map, slice_range, MatchOption, IfOk};
-ghost use Rattle.std.specs.Prelude.{take, drop, length, ◌-◌};
+ghost use Rattle.std.specs.Prelude.{◌≡◌, ◌≤◌, [], ◌∷◌, MatchOption, IfOk, take, drop, length, ◌-◌};
 ghost use Rattle.std.specs.Char.{digit_value};
 ghost use Rattle.grammars.specs.Heads.{expect};
 ghost use Rattle.grammars.specs.Examples.{chosen};
-ghost use Rattle.ivy_syntax.specs.Grammar.{single, before, enclosed, rank};
-ghost use Rattle.ivy_syntax.specs.Lexeme.{placed, bytes_of, token_of, value_of};
-ghost use Rattle.ivy_syntax.specs.Descent.{is_symbol, is_keyword, sign_in, word_in, begins_stmt, operator_rank};
-ghost use Rattle.ivy_syntax.specs.Descent.{strength, operation, join, named, start};
-ghost use Rattle.ivy_syntax.specs.Agreement.{Agrees, AgreesOn, Follows, level_of, test, start_of};
+ghost use Rattle.ivy_syntax.specs.Grammar.{single, before, enclosed};
+ghost use Rattle.ivy_syntax.specs.Lexeme.{placed, tokens, value_of};
+ghost use Rattle.ivy_syntax.specs.Descent.{is_sign, is_word, joins, begins_stmt, joining, op_of, join, named, start};
+ghost use Rattle.ivy_syntax.specs.Agreement.{Agrees, AgreesOn, Follows, test, start_of};
 ghost use Rattle.ivy_syntax.specs.declared.reading.Stop.TheVariants as stops;
 ghost use Rattle.ivy_syntax.specs.Token as token;
 
+use crate::level::Level;
 use crate::lexeme::{Keyword, Kind, Lexeme, Operator, Symbol};
 use crate::tree::{Expr, Form, Op, Text, Word};
 use sqlite_items::Boxed;
 use std::alloc::{AllocError, Global};
 use wire::NoMemory;
 
+/// The tokens of a text that are still to be read.
+pub(crate) type Rest<'a> = &'a [Lexeme<'a>];
+
 /// Why reading stopped.
 #[derive(Clone, Copy)]
 pub(crate) enum Stop<'a> {
-    /// No source goes on with these tokens, behind those before them.
-    Wrong(&'a [Lexeme]),
+    /// No source goes on with these tokens, after those before them.
+    Wrong(Rest<'a>),
     /// The first of these tokens stands within too many others.
-    Deep(&'a [Lexeme]),
+    Deep(Rest<'a>),
     NoMemory,
 }
 
@@ -37,34 +39,15 @@ impl<'a> From<NoMemory> for Stop<'a> {
     }
 }
 
-impl<'a> From<AllocError> for Stop<'a> {
-    ghost from_gives = { λ _ stop. stop ≡ stops.NoMemory };
-
-    fn from(_: AllocError) -> Stop<'a> {
-        Stop::NoMemory
-    }
-}
-
-/// A part of a source, and the tokens behind it.
-pub(crate) type Read<'a, T> = Result<(T, &'a [Lexeme]), Stop<'a>>;
-
-/// A level of expressions at which operators join operands, from the one that binds least.
-#[derive(Clone, Copy)]
-pub(crate) enum Precedence {
-    Or,
-    And,
-    Comparison,
-    Shift,
-    Sum,
-    Term,
-}
+/// A part of a source, and the tokens after it.
+pub(crate) type Read<'a, T> = Result<(T, Rest<'a>), Stop<'a>>;
 
 /// What a token is looked for as: a sign, a word, an operator of a level, or a word that begins a statement.
 #[derive(Clone, Copy)]
 pub(crate) enum Wanted {
     Sign(Symbol),
     Word(Keyword),
-    Joins(Precedence),
+    Joins(Level),
     Statement,
 }
 
@@ -79,144 +62,71 @@ pub(crate) enum Head {
     NoStart,
 }
 
-// ---- kinds of tokens
+// ---- what tokens are
 
-fn is_symbol(a: Symbol, b: Symbol) -> bool
-    ensures { result ≡ is_symbol a b }
+fn is_sign(symbol: Symbol, lexeme: Lexeme<'_>) -> bool
+    ensures { result ≡ is_sign symbol (placed lexeme.entry) }
 {
-    a == b
-}
-
-fn is_keyword(a: Keyword, b: Keyword) -> bool
-    ensures { result ≡ is_keyword a b }
-{
-    a == b
-}
-
-fn is_sign(symbol: Symbol, kind: Kind) -> bool
-    ensures { (bytes : List ℕ) → sign_in symbol (token_of kind bytes) ≡ result }
-{
-    match kind {
-        Kind::Sign(found) => is_symbol(symbol, found),
+    match lexeme.kind {
+        Kind::Sign(found) => symbol == found,
         _ => false,
     }
 }
 
-fn is_word(keyword: Keyword, kind: Kind) -> bool
-    ensures { (bytes : List ℕ) → word_in keyword (token_of kind bytes) ≡ result }
+fn is_word(keyword: Keyword, lexeme: Lexeme<'_>) -> bool
+    ensures { result ≡ is_word keyword (placed lexeme.entry) }
 {
-    match kind {
-        Kind::Word(found) => is_keyword(keyword, found),
+    match lexeme.kind {
+        Kind::Word(found) => keyword == found,
         _ => false,
     }
 }
 
-fn begins_stmt(kind: Kind) -> bool
-    ensures { (bytes : List ℕ) → begins_stmt (token_of kind bytes) ≡ result }
+fn begins_stmt(lexeme: Lexeme<'_>) -> bool
+    ensures { result ≡ begins_stmt (placed lexeme.entry).0 }
 {
-    match kind {
-        Kind::Word(Keyword::Verify | Keyword::Lock | Keyword::Unlock) => true,
-        _ => false,
+    matches!(
+        lexeme.kind,
+        Kind::Word(Keyword::Verify | Keyword::Lock | Keyword::Unlock)
+    )
+}
+
+// What a token is between operands.
+fn joining(lexeme: Lexeme<'_>) -> Option<(Level, Op)>
+    ensures { result ≡ joining (placed lexeme.entry).0 }
+{
+    match lexeme.kind {
+        Kind::Operation(operator) => operator.binary(),
+        _ => None,
     }
 }
 
-fn operator_rank(operator: Operator) -> u8
-    ensures { result ≡ operator_rank operator }
+fn joins(level: Level, lexeme: Lexeme<'_>) -> bool
+    ensures { result ≡ joins level (placed lexeme.entry) }
 {
-    match operator {
-        Operator::Or => 1,
-        Operator::And => 2,
-        Operator::Equal => 3,
-        Operator::NotEqual => 3,
-        Operator::Less => 3,
-        Operator::LessEqual => 3,
-        Operator::Greater => 3,
-        Operator::GreaterEqual => 3,
-        Operator::ShiftLeft => 4,
-        Operator::ShiftRight => 4,
-        Operator::Plus => 5,
-        Operator::Minus => 5,
-        Operator::Star => 6,
-        Operator::Slash => 6,
-        Operator::Percent => 6,
-        Operator::Not => 0,
-    }
-}
-
-fn strength(kind: Kind) -> u8
-    ensures { (bytes : List ℕ) → strength (token_of kind bytes) ≡ result }
-{
-    match kind {
-        Kind::Operation(operator) => operator_rank(operator),
-        Kind::Sign(Symbol::OpenParen) => 7,
-        _ => 0,
-    }
-}
-
-impl Precedence {
-    fn rank(self) -> u8
-        ensures { result ≡ rank (level_of self) }
-    {
-        match self {
-            Precedence::Or => 1,
-            Precedence::And => 2,
-            Precedence::Comparison => 3,
-            Precedence::Shift => 4,
-            Precedence::Sum => 5,
-            Precedence::Term => 6,
-        }
+    match joining(lexeme) {
+        Some((found, _)) => level == found,
+        None => false,
     }
 }
 
 impl Wanted {
-    fn passes(self, kind: Kind) -> bool
-        ensures { (bytes : List ℕ) → (at : ℕ) → test self (token_of kind bytes, at) ≡ result }
+    fn is(self, lexeme: Lexeme<'_>) -> bool
+        ensures { result ≡ test self (placed lexeme.entry) }
     {
         match self {
-            Wanted::Sign(symbol) => is_sign(symbol, kind),
-            Wanted::Word(keyword) => is_word(keyword, kind),
-            Wanted::Joins(precedence) => strength(kind) == precedence.rank(),
-            Wanted::Statement => begins_stmt(kind),
+            Wanted::Sign(symbol) => is_sign(symbol, lexeme),
+            Wanted::Word(keyword) => is_word(keyword, lexeme),
+            Wanted::Joins(level) => joins(level, lexeme),
+            Wanted::Statement => begins_stmt(lexeme),
         }
-    }
-}
-
-fn binary(operator: Operator) -> Op
-    ensures { result ≡ operation (token.Operation operator) }
-{
-    match operator {
-        Operator::Or => Op::Or,
-        Operator::And => Op::And,
-        Operator::Equal => Op::Equal,
-        Operator::NotEqual => Op::NotEqual,
-        Operator::Less => Op::Less,
-        Operator::LessEqual => Op::LessEqual,
-        Operator::Greater => Op::Greater,
-        Operator::GreaterEqual => Op::GreaterEqual,
-        Operator::ShiftLeft => Op::ShiftLeft,
-        Operator::ShiftRight => Op::ShiftRight,
-        Operator::Plus => Op::Add,
-        Operator::Minus => Op::Sub,
-        Operator::Star => Op::Mul,
-        Operator::Slash => Op::Div,
-        Operator::Percent => Op::Rem,
-        Operator::Not => Op::Not,
-    }
-}
-
-fn operation(kind: Kind) -> Op
-    ensures { (bytes : List ℕ) → operation (token_of kind bytes) ≡ result }
-{
-    match kind {
-        Kind::Operation(operator) => binary(operator),
-        _ => Op::Not,
     }
 }
 
 // ---- the next token
 
-/// The next token, and those behind it.
-pub(crate) fn next<'a>(rest: &'a [Lexeme]) -> Option<(Lexeme, &'a [Lexeme])>
+/// The next token, and those after it.
+pub(crate) fn next<'a>(rest: Rest<'a>) -> Option<(Lexeme<'a>, Rest<'a>)>
     ensures { MatchOption result (rest.now ≡ []) (λ found. rest.now ≡ found.0 ∷ found.1.now) }
 {
     match rest {
@@ -225,45 +135,29 @@ pub(crate) fn next<'a>(rest: &'a [Lexeme]) -> Option<(Lexeme, &'a [Lexeme])>
     }
 }
 
-/// The next token and those behind it, if it is what is looked for.
-pub(crate) fn next_if<'a>(
-    text: &[u8],
-    rest: &'a [Lexeme],
-    wanted: Wanted,
-) -> Option<(Lexeme, &'a [Lexeme])>
-    ensures { Follows (test wanted) text.now rest.now result }
+/// The next token and those after it, if it is what is looked for.
+pub(crate) fn next_if<'a>(rest: Rest<'a>, wanted: Wanted) -> Option<(Lexeme<'a>, Rest<'a>)>
+    ensures { Follows (test wanted) rest.now result }
 {
     let (first, behind) = next(rest)?;
-    if wanted.passes(first.kind) {
+    if wanted.is(first) {
         Some((first, behind))
     } else {
         None
     }
 }
 
-/// The next token, which has to be what is looked for, and those behind it.
-pub(crate) fn expected<'a>(
-    text: &[u8],
-    rest: &'a [Lexeme],
-    wanted: Wanted,
-) -> Result<(Lexeme, &'a [Lexeme]), Stop<'a>>
-    ensures { AgreesOn text.now result (expect (chosen (test wanted)) (map (placed text.now) rest.now)) }
+/// The next token, which has to be what is looked for, and those after it.
+pub(crate) fn expected<'a>(rest: Rest<'a>, wanted: Wanted) -> Read<'a, Lexeme<'a>>
+    ensures { AgreesOn result (expect (chosen (test wanted)) (tokens rest.now)) }
 {
-    match next_if(text, rest, wanted) {
+    match next_if(rest, wanted) {
         Some(found) => Ok(found),
         None => Err(Stop::Wrong(rest)),
     }
 }
 
 // ---- bytes
-
-fn lexeme_bytes(text: &[u8], lexeme: Lexeme) -> &[u8]
-    ensures { result.now ≡ bytes_of text.now lexeme }
-{
-    let to = lexeme.to.min(text.len());
-    let from = lexeme.from.min(to);
-    &text[from..to]
-}
 
 // The bytes but the first and the last.
 fn unquoted(bytes: &[u8]) -> &[u8]
@@ -302,7 +196,7 @@ fn hex_value(alloc: Global, digits: &[u8]) -> Result<Text, NoMemory>
     Ok(value)
 }
 
-// The digits of a hex literal, behind its first two bytes.
+// The digits of a hex literal, after its first two bytes.
 fn digits_of(bytes: &[u8]) -> &[u8]
     ensures { result.now ≡ drop 2 bytes.now }
 {
@@ -315,16 +209,16 @@ fn digits_of(bytes: &[u8]) -> &[u8]
 // ---- names and operands
 
 /// A name, with its place.
-pub(crate) fn name<'a>(alloc: Global, text: &[u8], rest: &'a [Lexeme]) -> Read<'a, Word>
-    ensures { Agrees text.now result (expect named (map (placed text.now) rest.now)) }
+pub(crate) fn name<'a>(alloc: Global, rest: Rest<'a>) -> Read<'a, Word>
+    ensures { Agrees result (expect named (tokens rest.now)) }
 {
     let Some((first, behind)) = next(rest) else {
         return Err(Stop::Wrong(rest));
     };
     match first.kind {
         Kind::Name => {
-            let name = Text::from_slice(alloc, lexeme_bytes(text, first))?;
-            let at = first.from as u64;
+            let name = Text::from_slice(alloc, first.bytes)?;
+            let at = first.at;
             Ok((Word { name, at }, behind))
         }
         _ => Err(Stop::Wrong(rest)),
@@ -362,8 +256,8 @@ fn sign_head(symbol: Symbol) -> Head
 }
 
 /// What an operand with this first token begins with.
-pub(crate) fn head_of(alloc: Global, text: &[u8], lexeme: Lexeme) -> Result<Head, NoMemory>
-    ensures { IfOk result (λ found. start_of found ≡ start (token_of lexeme.kind (bytes_of text.now lexeme))) }
+pub(crate) fn head_of(alloc: Global, lexeme: Lexeme<'_>) -> Result<Head, NoMemory>
+    ensures { IfOk result (λ found. start_of found ≡ start (placed lexeme.entry).0) }
 {
     match lexeme.kind {
         Kind::Number(n) => Ok(Head::Literal(Form::Number(n))),
@@ -371,57 +265,65 @@ pub(crate) fn head_of(alloc: Global, text: &[u8], lexeme: Lexeme) -> Result<Head
         Kind::Sign(symbol) => Ok(sign_head(symbol)),
         Kind::Operation(operator) => Ok(operation_head(operator)),
         Kind::Hex => {
-            let value = hex_value(alloc, digits_of(lexeme_bytes(text, lexeme)))?;
+            let value = hex_value(alloc, digits_of(lexeme.bytes))?;
             Ok(Head::Literal(Form::Hex(value)))
         }
         Kind::Quoted => {
-            let value = Text::from_slice(alloc, unquoted(lexeme_bytes(text, lexeme)))?;
+            let value = Text::from_slice(alloc, unquoted(lexeme.bytes))?;
             Ok(Head::Literal(Form::Quoted(value)))
         }
-        Kind::Name => Ok(Head::Named(Text::from_slice(alloc, lexeme_bytes(text, lexeme))?)),
+        Kind::Name => Ok(Head::Named(Text::from_slice(alloc, lexeme.bytes)?)),
         _ => Ok(Head::NoStart),
     }
 }
 
-/// An expression at the place of this token, and from there on.
-pub(crate) fn alone(first: Lexeme, form: Form) -> Expr
-    ensures { result ≡ single first.from form }
+/// An expression of one token, from its place on.
+pub(crate) fn alone(at: u64, form: Form) -> Expr
+    ensures { result ≡ single at form }
 {
-    let at = first.from as u64;
     Expr { from: at, at, form }
 }
 
-/// An operator, and its operand.
-pub(crate) fn prefixed(alloc: Global, first: Lexeme, op: Op, arg: Expr) -> Result<Expr, AllocError>
-    ensures { IfOk result (λ e. e ≡ before first.from op arg) }
+/// An operator at this place, and its operand.
+pub(crate) fn prefixed(alloc: Global, at: u64, op: Op, arg: Expr) -> Result<Expr, AllocError>
+    ensures { IfOk result (λ e. e ≡ before at op arg) }
 {
     let arg = Boxed::new(alloc, arg)?;
-    Ok(alone(first, Form::Unary { op, arg }))
+    Ok(alone(at, Form::Unary { op, arg }))
+}
+
+// The operator of the tree that a token is between operands.
+fn operation(lexeme: Lexeme<'_>) -> Op
+    ensures { result ≡ op_of (joining (placed lexeme.entry).0) }
+{
+    match joining(lexeme) {
+        Some((_, op)) => op,
+        None => Op::Not,
+    }
 }
 
 /// Two operands, and the operator between them.
 pub(crate) fn joined(
     alloc: Global,
-    first: Lexeme,
+    first: Lexeme<'_>,
     left: Expr,
     right: Expr,
 ) -> Result<Expr, AllocError>
-    ensures { IfOk result (λ e. (text : List ℕ) → e ≡ join (placed text first) left right) }
+    ensures { IfOk result (λ e. e ≡ join (placed first.entry) left right) }
 {
     let from = left.from;
-    let op = operation(first.kind);
+    let op = operation(first);
     let left = Boxed::new(alloc, left)?;
     let right = Boxed::new(alloc, right)?;
     let form = Form::Binary { op, left, right };
-    let at = first.from as u64;
+    let at = first.at;
     Ok(Expr { from, at, form })
 }
 
-/// An expression that this opening parenthesis stands before.
-pub(crate) fn enclosed(first: Lexeme, inner: Expr) -> Expr
-    ensures { result ≡ enclosed first.from inner }
+/// An expression that an opening parenthesis at this place stands before.
+pub(crate) fn enclosed(from: u64, inner: Expr) -> Expr
+    ensures { result ≡ enclosed from inner }
 {
     let Expr { at, form, .. } = inner;
-    let from = first.from as u64;
     Expr { from, at, form }
 }

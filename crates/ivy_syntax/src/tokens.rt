@@ -1,23 +1,19 @@
 //! Cuts a text into tokens.
 
-ghost use Rattle.std.specs.Prelude.{◌≡◌, ◌≢◌, ◌<◌, ◌≤◌, ◌+◌, ◌-◌, ◌^◌, ◌==◌, length, map, take, drop, slice_index};
+ghost use Rattle.std.specs.Prelude.{◌≡◌, ◌≢◌, ◌<◌, ◌≤◌, ◌+◌, ◌-◌, ◌^◌, ◌==◌, length, [], drop, slice_index};
 ghost use Rattle.std.specs.Prelude.{Some, None, IfSome, IfOk, IsTrue, true, false};
-ghost use Rattle.std.specs.List.{list_all, prefix_len, AllByRecursion};
-ghost use Rattle.std.specs.Char.{is_ascii_digit, is_ascii_hexdigit};
-ghost use Rattle.std.specs.Str.Parse.{digits_value};
+ghost use Rattle.std.specs.List.{prefix_len};
+ghost use Rattle.std.specs.Char.{is_ascii_hexdigit};
 ghost use Rattle.ivy_syntax.specs.Token.{letters, begins_name, goes_on, is_quotable};
 ghost use Rattle.ivy_syntax.specs.Tokens.{is_blank, is_in_line, AreTokens};
-ghost use Rattle.ivy_syntax.specs.Lexeme.{placed, LiesIn};
+ghost use Rattle.ivy_syntax.specs.Lexeme.{placed, tokens, token_of};
 ghost use Rattle.ivy_syntax.specs.Cutting as cutting;
 
 use crate::lexeme::{Front, Keyword, Kind, Lexeme, Operator, Symbol};
 use std::alloc::Global;
-use wire::NoMemory;
+use wire::{MAX_NUMBER, NoMemory, decimal_within};
 
-/// The greatest number that a text may have.
-const MOST: u64 = (1 << 63) - 1;
-
-// The byte at a place, and 0 behind the end.
+// The byte at a place, and 0 after the end.
 fn byte(text: &[u8], at: usize) -> u8
     ensures value { result ≡ slice_index text.now at }
     ensures within { result ≢ 0 → at < length text.now }
@@ -79,58 +75,12 @@ fn word_at(text: &[u8]) -> Option<(Kind, usize)>
     Some((kind, len))
 }
 
-fn are_digits(digits: &[u8]) -> bool
-    ensures { result ≡ list_all is_ascii_digit digits.now }
-{
-    digits.iter().all(|d| d.is_ascii_digit())
-}
-
-fn is_decimal(digits: &[u8]) -> bool
-    ensures { result ≡ cutting.is_decimal digits.now }
-{
-    match digits {
-        [b'0'] => true,
-        [b'1'..=b'9', rest @ ..] => are_digits(rest),
-        _ => false,
-    }
-}
-
-// The number that digits say, if it is one that a text may have.
-#[tactic(auto, using(crate::proofs::CutNumbers::value_after_grows))]
-fn value(digits: &[u8]) -> Option<u64>
-    requires { IsTrue (list_all is_ascii_digit digits.now) }
-    ensures { result ≡ cutting.within_most (digits_value 10 digits.now) }
-{
-    let mut number: u64 = 0;
-    let mut rest = digits;
-    while let [digit, others @ ..] = rest {
-        let more = u64::from(*digit - b'0');
-        if number > (MOST - more) / 10 {
-            return None;
-        }
-        number = 10 * number + more;
-        rest = others;
-    }
-    Some(number)
-}
-
-#[tactic(auto, unfolding(crate::specs::Cutting::number_of))]
-fn number(digits: &[u8]) -> Option<u64>
-    ensures { result ≡ cutting.number_of digits.now }
-{
-    if is_decimal(digits) {
-        value(digits)
-    } else {
-        None
-    }
-}
-
 #[tactic(auto, unfolding(crate::specs::Cutting::number_at))]
 fn number_at(text: &[u8]) -> Option<(Kind, usize)>
     ensures { result ≡ cutting.number_at text.now }
 {
     let len = word_len(text);
-    match number(&text[..len]) {
+    match decimal_within(&text[..len], MAX_NUMBER) {
         Some(number) => Some((Kind::Number(number), len)),
         None => None,
     }
@@ -314,7 +264,7 @@ fn block_len(text: &[u8]) -> usize
     }
 }
 
-// How many bytes of a comment stand at the front. Where it is known that no `*/` follows, none is looked for.
+// How many bytes of a comment the text begins with. Where it is known that no `*/` follows, none is looked for.
 #[tactic(auto, unfolding(crate::specs::Cutting::comment_len), using(crate::proofs::Cuts::none_in_block))]
 fn comment_len(text: &[u8], unclosed: bool) -> usize
     requires small { length text.now < 2 ^ 63 }
@@ -363,18 +313,20 @@ fn begins_block(text: &[u8]) -> bool
 }
 
 /// `End` or `Bad` at a place.
-pub(crate) fn point(kind: Kind, at: usize) -> Lexeme
-    ensures { result ≡ cutting.point kind at }
+pub(crate) fn point<'a>(kind: Kind, at: u64) -> Lexeme<'a>
+    ensures token { placed result ≡ (token_of kind [], at) }
+    ensures kind { result.kind ≡ kind }
 {
     Lexeme {
         kind,
-        from: at,
-        to: at,
+        bytes: &[],
+        at,
     }
 }
 
-fn cut(alloc: Global, text: &[u8]) -> Result<Vec<Lexeme>, NoMemory>
-    ensures { IfOk result (λ lexemes. lexemes.items ≡ cutting.cuts 0 text.now) }
+/// The tokens of a text, with `End` after them, or `Bad` where none begins: in one pass, with no byte copied.
+pub(crate) fn tokenize<'a>(alloc: Global, text: &'a [u8]) -> Result<Vec<Lexeme<'a>>, NoMemory>
+    ensures { IfOk result (λ lexemes. AreTokens 0 text.now (tokens lexemes.items)) }
 {
     let mut lexemes = Vec::new(alloc);
     let mut at = 0;
@@ -387,26 +339,17 @@ fn cut(alloc: Global, text: &[u8]) -> Result<Vec<Lexeme>, NoMemory>
                 unclosed = unclosed || begins_block(rest);
                 lexemes.push(Lexeme {
                     kind,
-                    from: at,
-                    to: at + len,
+                    bytes: &rest[..len],
+                    at: at as u64,
                 })?;
                 at += len;
             }
             Front::Wrong => {
-                lexemes.push(point(Kind::Bad, at))?;
+                lexemes.push(point(Kind::Bad, at as u64))?;
                 return Ok(lexemes);
             }
         }
     }
-    lexemes.push(point(Kind::End, at))?;
-    Ok(lexemes)
-}
-
-/// The tokens of a text, with `End` behind them, or `Bad` where none begins: in one pass, with no byte copied.
-pub(crate) fn tokenize(alloc: Global, text: &[u8]) -> Result<Vec<Lexeme>, NoMemory>
-    ensures tokens { IfOk result (λ lexemes. AreTokens 0 text.now (map (placed text.now) lexemes.items)) }
-    ensures places { IfOk result (λ lexemes. AllByRecursion (LiesIn text.now) lexemes.items) }
-{
-    let lexemes = cut(alloc, text)?;
+    lexemes.push(point(Kind::End, at as u64))?;
     Ok(lexemes)
 }

@@ -1,2 +1,3 @@
 pub mod Digests
 pub mod Table
+pub mod Functions

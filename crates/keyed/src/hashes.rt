@@ -1,3 +1,4 @@
+//! The hash that ids are made with, as a function of bytes.
 ghost use Rattle.std.specs.Prelude.{◌≡◌, ◌<◌, ℕ, List, length, slice_index};
 ghost use Rattle.sha2.specs.Sha256.{sha256};
 ghost use Rattle.keyed.specs.Digests.{digest_length, digest_bytes_fit};

@@ -4,15 +4,14 @@
 #![tactic(auto)]
 
 mod hashes;
-mod memory;
 mod pile;
 mod signatures;
 mod signing;
 mod table;
 
 pub use hashes::{IdHash, Sha256Id};
-pub use memory::NoMemory;
 pub use pile::Pile;
 pub use signatures::{NoSigs, SigCheck};
 pub use signing::{SignFault, SignKey};
+pub use std::alloc::AllocError as NoMemory;
 pub use table::TableCheck;

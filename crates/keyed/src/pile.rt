@@ -1,3 +1,4 @@
+//! A pile of items as the check of many signatures sees it.
 ghost use Rattle.std.specs.Prelude.{◌≡◌, ◌≤◌, ◌↔◌, ℕ, List, length, slice_get, option_copied, IsNone};
 
 /// A pile of items that are strings of bytes. Looking at it takes no memory.

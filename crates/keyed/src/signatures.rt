@@ -1,3 +1,4 @@
+//! The check of signatures, as a function of the key, the message and the signature.
 ghost use Rattle.std.specs.Prelude.{◌≡◌, ℕ, List, Bool, false};
 
 /// A check of signatures. It takes no memory.

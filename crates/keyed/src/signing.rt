@@ -1,14 +1,15 @@
+//! Keys that sign.
 ghost use Rattle.std.specs.Prelude.{◌≡◌, ◌+◌, ◌<◌, ◌↔◌, ℕ, List, Bool, Err, IsTrue, IfOk, OnOk, OnErr};
 
 use crate::NoMemory;
-use std::alloc::{AllocError, AllocFailed};
+use std::alloc::AllocFailed;
 
 /// Why a key gave no signature.
 #[derive(Clone, Copy, Debug, PartialEq, Eq)]
 pub enum SignFault {
     /// The key has no signature left.
     Spent,
-    /// Memory was wanted and not found.
+    /// Out of memory.
     NoMemory,
 }
 
@@ -18,16 +19,6 @@ impl From<NoMemory> for SignFault {
     ghost from_gives = { λ _ e. e ≡ faults.NoMemory };
 
     fn from(_: NoMemory) -> SignFault {
-        SignFault::NoMemory
-    }
-}
-
-impl From<AllocError> for SignFault {
-    ghost use Rattle.keyed.specs.declared.signing.SignFault.TheVariants as faults;
-
-    ghost from_gives = { λ _ e. e ≡ faults.NoMemory };
-
-    fn from(_: AllocError) -> SignFault {
         SignFault::NoMemory
     }
 }
@@ -66,7 +57,7 @@ pub trait SignKey {
     fn left(&self) -> u64
         ensures { result ≡ left_of self.now };
 
-    /// The next signature, of this message. `Spent` comes exactly where none is left. After a refusal, want of memory
+    /// The next signature, of this message. `Spent` comes exactly where none is left. After a refusal, out of memory
     /// included, the key is as it was.
     fn sign(&mut self, msg: &[u8]) -> Result<Vec<u8>, SignFault>
         ensures signature { IfOk result (λ signature. signature.items ≡ signature_of self.old 0 msg.now) }

@@ -1,3 +1,4 @@
+//! A check by a table of the signatures that are good, for tests.
 ghost use Rattle.std.specs.Prelude.{◌≡◌, [], ◌∷◌, ◌++◌, OnOk, OnErr};
 ghost use Rattle.keyed.specs.Table.{is_row, is_signed};
 
@@ -27,7 +28,7 @@ impl Model for Signed {
 
 impl Signed {
     /// Whether it is this signature of this message, for this key.
-    pub fn is(&self, key: &[u8], message: &[u8], signature: &[u8]) -> bool
+    pub fn is_row(&self, key: &[u8], message: &[u8], signature: &[u8]) -> bool
         ensures { result ≡ is_row self.now key.now message.now signature.now }
     {
         self.key.as_slice() == key
@@ -88,7 +89,7 @@ impl SigCheck for TableCheck {
 
     fn good(&self, key: &[u8], msg: &[u8], sig: &[u8]) -> bool {
         for row in &self.rows {
-            if row.is(key, msg, sig) {
+            if row.is_row(key, msg, sig) {
                 return true;
             }
         }

@@ -1,8 +1,7 @@
 -- How chains grow.
 use Rattle.std.proofs.Common.{◌≡◌, ◌<◌, List, [], ◌∷◌, ◌++◌, length, Some, sym, ◌∙◌, ap, subst, arith, append_assoc, append-nil, length-append}
 use Rattle.data_model.specs.declared.block.Block.{Block}
-use Rattle.vm_run.specs.Row.{Check}
-use Rattle.ledger_core.specs.Roots.{Hash}
+use Rattle.keyed.specs.Functions.{Check, Hash}
 use Rattle.ledger_core.specs.Refusal.{ValidNext, tip_of}
 use Rattle.ledger_core.specs.Chain.{GoesOn, Chain}
 use Rattle.ledger_core.proofs.Tips.{tip_of_more}

@@ -5,28 +5,29 @@ use Rattle.std.proofs.lemmas.Grind.{flat_map-append}
 use Rattle.wire.specs.Tables.{HoldsNot}
 use Rattle.data_model.specs.declared.tx.Tx.{Tx}
 use Rattle.data_model.specs.declared.block.Block.{Block}
-use Rattle.vm_run.specs.Row.{Check}
+use Rattle.keyed.specs.Functions.{Check}
 use Rattle.tx_check.specs.View.{State, Unspent}
 use Rattle.tx_check.specs.Table.{TxValid, Refuses}
 use Rattle.tx_check.specs.Laws.{RefusalLaws}
 use Rattle.tx_check.specs.declared.refusal.TxRefusal.{TxRefusal}
 use Rattle.tx_check.specs.declared.refusal.TxFault.{TxFault}
 use Rattle.tx_check.specs.declared.refusal.TxFault.TheVariants as tx
-use Rattle.tx_check.specs.FirstPlaces.{StandsAt, NoneBelow, none_at_start, none_more, found_here, nowhere}
+use Rattle.tx_check.specs.FirstPlaces.{NoneBelow, none_at_start, none_more, found_here, nowhere}
+use Rattle.wire.specs.Lists.{StandsAt}
 use Rattle.ledger_core.specs.declared.refusal.BlockRefusal.{BlockRefusal}
 use Rattle.ledger_core.specs.declared.refusal.BlockRefusal.TheVariants.{B8}
 use Rattle.ledger_core.specs.declared.refusal.OfferFault.{OfferFault}
 use Rattle.ledger_core.specs.declared.refusal.OfferFault.TheVariants.{Refused, NoMemory}
 use Rattle.ledger_core.specs.declared.unfinished.Changes.{Changes}
 use Rattle.ledger_core.specs.declared.unfinished.LiveNonce.{LiveNonce}
-use Rattle.ledger_core.specs.Roots.{Hash}
+use Rattle.keyed.specs.Functions.{Hash}
 use Rattle.ledger_core.specs.Blocks.{txs_of}
-use Rattle.ledger_core.specs.Held.{Held, shown_with}
+use Rattle.ledger_core.specs.LedgerModel.{LedgerModel, shown_with}
 use Rattle.ledger_core.specs.Chain.{StandsFor}
 use Rattle.ledger_core.specs.State.{state_after, ids_of}
 use Rattle.ledger_core.specs.Unspent.{left_of, made_by, spent_by, used_by, unspent_after, used}
 use Rattle.ledger_core.specs.Refusal.{IsRefusedTx, HasRefusedTx}
-use Rattle.ledger_core.specs.Offering.{AreChanges, RefusesAs, TellsOf}
+use Rattle.ledger_core.specs.Offering.{AreChanges, RefusesAs, RefusedAt}
 use Rattle.ledger_core.proofs.Unspents.{unspent_more, unspent_then, used_more}
 use Rattle.ledger_core.proofs.Taken.{take_next}
 
@@ -64,7 +65,7 @@ changes_next hash txs k one old new s are adds =
 -- ---- what is shown
 
 -- a ledger with the changes of some transactions shows what its blocks and these transactions do
-pub shown_after : (hash : Hash) (check : Check) (ledger : Held) (txs : List Tx) (changes : Changes) → StandsFor hash check ledger → AreChanges hash txs changes
+pub shown_after : (hash : Hash) (check : Check) (ledger : LedgerModel) (txs : List Tx) (changes : Changes) → StandsFor hash check ledger → AreChanges hash txs changes
     → shown_with ledger changes.made.items changes.spent.items changes.used.items ≡ state_after hash ledger.blocks txs
 shown_after hash check ledger txs changes stands are =
     let before = txs_of ledger.blocks in
@@ -84,8 +85,8 @@ not_both r u fault e f = cc
 one_fault : (r : Result (Unit {0}) OfferFault) (a b : OfferFault) → r ≡ Err a → r ≡ Err b → a ≡ b
 one_fault r a b e f = cc
 
-none_and_some : (line : TxRefusal) → None ≡ Some line → ⊥
-none_and_some line e = cc
+none_and_some : (cause : TxRefusal) → None ≡ Some cause → ⊥
+none_and_some cause e = cc
 
 module _ (hash : Hash) (check : Check) (blocks : List Block) (time : ℕ) (txs : List Tx) where
   abbrev Line : ℕ → Tx → BlockRefusal → Type 0
@@ -103,26 +104,26 @@ module _ (hash : Hash) (check : Check) (blocks : List Block) (time : ℕ) (txs :
 
   module _ (k : ℕ) (one : Tx) (state : State) (shows : state ≡ state_after hash blocks (take k txs)) where
     not_refused : RefusalLaws hash check → TxValid hash check state time one → HoldsNot (Line k one)
-    not_refused laws valid told h =
+    not_refused laws valid reported h =
         let there = subst (λ (s : State). TxValid hash check s time one) shows valid in
         none_and_some h.0 (laws.one (state_after hash blocks (take k txs)) time one None (Some h.0) there h.1)
 
-    is_refused : (line : TxRefusal) → Refuses hash check state time one (tx.Refused line) → Line k one (B8 k line)
-    is_refused line h = (line, subst (λ (s : State). Refuses hash check s time one (tx.Refused line)) shows h, refl)
+    is_refused : (cause : TxRefusal) → Refuses hash check state time one (tx.Refused cause) → Line k one (B8 k cause)
+    is_refused cause h = (cause, subst (λ (s : State). Refuses hash check s time one (tx.Refused cause)) shows h, refl)
 
     -- one that is not refused
-    pub next_valid : RefusalLaws hash check → (checked : Result (Unit {0}) TxFault) (told : Result (Unit {0}) OfferFault) (u : Unit {0}) → NoneRefused k → StandsAt txs k one
-        → OnOk checked (TxValid hash check state time one) → TellsOf checked k told → told ≡ Ok u → NoneRefused (k + 1)
-    next_valid laws (Ok v) told u none s valid tells e = none_more Line txs k one none s (not_refused laws valid)
-    next_valid laws (Err (tx.Refused line)) told u none s valid tells e = absurd (not_both told u (Refused (B8 k line)) e tells)
-    next_valid laws (Err tx.NoMemory) told u none s valid tells e = absurd (not_both told u NoMemory e tells)
+    pub next_valid : RefusalLaws hash check → (checked : Result (Unit {0}) TxFault) (reported : Result (Unit {0}) OfferFault) (u : Unit {0}) → NoneRefused k → StandsAt txs k one
+        → OnOk checked (TxValid hash check state time one) → RefusedAt checked k reported → reported ≡ Ok u → NoneRefused (k + 1)
+    next_valid laws (Ok v) reported u none s valid reports e = none_more Line txs k one none s (not_refused laws valid)
+    next_valid laws (Err (tx.Refused cause)) reported u none s valid reports e = absurd (not_both reported u (Refused (B8 k cause)) e reports)
+    next_valid laws (Err tx.NoMemory) reported u none s valid reports e = absurd (not_both reported u NoMemory e reports)
 
     -- the first that is refused
-    pub first_refused : (checked : Result (Unit {0}) TxFault) (told : Result (Unit {0}) OfferFault) (fault : OfferFault) → NoneRefused k → StandsAt txs k one
-        → IfErr checked (Refuses hash check state time one) → TellsOf checked k told → told ≡ Err fault → RefusesAs (HasRefusedTx hash check blocks time txs) fault
-    first_refused (Ok v) told fault none s refused tells e = absurd (not_both told tt fault tells e)
-    first_refused (Err (tx.Refused line)) told fault none s refused tells e =
-        subst (λ (f : OfferFault). RefusesAs (HasRefusedTx hash check blocks time txs) f) (one_fault told (Refused (B8 k line)) fault tells e)
-        (found_here Line txs k one (B8 k line) none s (is_refused line refused))
-    first_refused (Err tx.NoMemory) told fault none s refused tells e =
-        subst (λ (f : OfferFault). RefusesAs (HasRefusedTx hash check blocks time txs) f) (one_fault told NoMemory fault tells e) tt
+    pub first_refused : (checked : Result (Unit {0}) TxFault) (reported : Result (Unit {0}) OfferFault) (fault : OfferFault) → NoneRefused k → StandsAt txs k one
+        → IfErr checked (Refuses hash check state time one) → RefusedAt checked k reported → reported ≡ Err fault → RefusesAs (HasRefusedTx hash check blocks time txs) fault
+    first_refused (Ok v) reported fault none s refused reports e = absurd (not_both reported tt fault reports e)
+    first_refused (Err (tx.Refused cause)) reported fault none s refused reports e =
+        subst (λ (f : OfferFault). RefusesAs (HasRefusedTx hash check blocks time txs) f) (one_fault reported (Refused (B8 k cause)) fault reports e)
+        (found_here Line txs k one (B8 k cause) none s (is_refused cause refused))
+    first_refused (Err tx.NoMemory) reported fault none s refused reports e =
+        subst (λ (f : OfferFault). RefusesAs (HasRefusedTx hash check blocks time txs) f) (one_fault reported NoMemory fault reports e) tt

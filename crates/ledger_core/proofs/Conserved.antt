@@ -11,10 +11,10 @@ use Rattle.data_model.specs.declared.output.Control.{Control}
 use Rattle.data_model.specs.declared.output.Output.{Output}
 use Rattle.data_model.specs.declared.tx.Tx.{Tx}
 use Rattle.entry_ids.specs.declared.input.Named.{Named}
-use Rattle.entry_ids.specs.Entry.{Hash}
+use Rattle.keyed.specs.Functions.{Hash}
 use Rattle.entry_ids.specs.Ids.{mux_id, names, nonce_id, output_id, result_data, result_id, result_ids}
 use Rattle.entry_ids.specs.Ids.{nonce_named as nonce_of}
-use Rattle.vm_run.specs.Row.{Check}
+use Rattle.keyed.specs.Functions.{Check}
 use Rattle.tx_check.specs.Parts.{amount_in, asset_in}
 use Rattle.tx_check.specs.Table.{TxValid, units, sum_in, sum_out, asset_out, amount_out, named_by}
 use Rattle.tx_check.specs.Valid.{Valid, NoneTwice}

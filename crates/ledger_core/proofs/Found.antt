@@ -36,7 +36,7 @@ module _ {X : Type 0} (f : X → List ℕ) (id : List ℕ) where
   pub nowhere_mapped : (xs : List X) → IsNowhere xs → Contains (map f xs) id → ⊥
   nowhere_mapped xs h p = none_mapped xs (λ k d l. h k d (omega arith) l) p.0 id p.1 p.2
 
-  -- what a search for it tells
+  -- what a search for it reports
   pub found_mapped : (xs : List X) (r : Bool) → MatchBool r (IsThere xs) (IsNowhere xs) → (IsTrue r ↔ Contains (map f xs) id)
   found_mapped xs true h = (λ e. there_mapped xs h, λ p. refl)
   found_mapped xs false h = (λ e. absurd (not_true e), λ p. absurd (nowhere_mapped xs h p))

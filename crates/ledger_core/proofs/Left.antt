@@ -6,7 +6,8 @@ use Rattle.std.proofs.lemmas.List.Elements.{Contains-append_left, Contains-appen
 use Rattle.std.proofs.lemmas.List.{map-append}
 use Rattle.tx_check.specs.View.{Unspent}
 use Rattle.ledger_core.specs.Roots.{output_ids}
-use Rattle.ledger_core.specs.Unspent.{is_among, left_of}
+use Rattle.ledger_core.specs.Unspent.{left_of}
+use Rattle.wire.specs.Strings.{is_among}
 
 never : IsTrue false → ⊥
 never e = cc
@@ -81,7 +82,7 @@ left_output spent outputs output t s h e =
     subst (λ (ys : List Unspent). Contains ys output) (map_itself (left_of spent outputs))
     (passes (λ o. o) test output (not s) shows outputs (subst (λ (ys : List Unspent). Contains ys output) (sym (map_itself outputs)) p) t))
 
--- ---- one list behind the other
+-- ---- one list after the other
 
 pub in_first : {X : Type 0} (xs ys : List X) (x : X) → (IsTrue true ↔ Contains xs x) → (IsTrue true ↔ Contains (xs ++ ys) x)
 in_first xs ys x h = (λ e. Contains-append_left xs ys x (h.0 e), λ r. refl)

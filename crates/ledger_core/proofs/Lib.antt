@@ -1,6 +1,4 @@
 pub mod Tips
-pub mod Lines
-pub mod Places
 pub mod RefusedTxs
 pub mod Refusals
 pub mod Valid

@@ -7,7 +7,7 @@ use Rattle.data_model.specs.declared.output.Output.{Output}
 use Rattle.data_model.specs.declared.output_body.OutputBody.{OutputBody}
 use Rattle.data_model.specs.declared.tx.Tx.{Tx}
 use Rattle.entry_ids.specs.declared.tx.TxIds.{TxIds}
-use Rattle.entry_ids.specs.Entry.{Hash}
+use Rattle.keyed.specs.Functions.{Hash}
 use Rattle.entry_ids.specs.Ids.{AreIds, mux_id, output_id, result_id, result_data}
 use Rattle.ledger_core.specs.Unspent.{made_at, made_body, made_of}
 

@@ -4,7 +4,8 @@ use Rattle.std.specs.Prelude.{Contains, bytes_eq}
 use Rattle.std.specs.Bool.{Decides}
 use Rattle.std.proofs.lemmas.Slice.Eq.{bytes_eq-Decides}
 use Rattle.tx_check.specs.View.{Unspent}
-use Rattle.ledger_core.specs.Unspent.{is_among, left_of}
+use Rattle.ledger_core.specs.Unspent.{left_of}
+use Rattle.wire.specs.Strings.{is_among}
 
 -- ---- members
 

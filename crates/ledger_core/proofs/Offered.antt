@@ -1,24 +1,25 @@
 -- What is found out of an offered block: what its transactions change, and the root of what is unspent after them.
 use Rattle.std.proofs.Common.{◌≡◌, ◌≢◌, ℕ, ◌-◌, List, ◌++◌, length, get_or, Some, None, Ok, Err, sym, ◌∙◌, ap, subst, inl, inr}
 use Rattle.std.specs.Prelude.{Result, IfErr, IsErrAnd}
-use Rattle.wire.specs.Tables.{Line, HoldsNot, First}
+use Rattle.wire.specs.Tables.{HoldsNot, First, Cause}
 use Rattle.data_model.specs.declared.block.Block.{Block}
 use Rattle.data_model.specs.declared.tx.Tx.{Tx}
 use Rattle.merkle.specs.Roots.{set_root}
 use Rattle.vm_num.specs.declared.failure.Failure.{Failure}
 use Rattle.vm_run.specs.declared.verdict.Verdict.{Verdict}
 use Rattle.vm_run.specs.declared.verdict.Verdict.TheVariants.{Succeeded, Failed}
-use Rattle.vm_run.specs.Row.{Check}
+use Rattle.keyed.specs.Functions.{Check}
 use Rattle.ledger_core.specs.declared.refusal.BlockRefusal.{BlockRefusal}
 use Rattle.ledger_core.specs.declared.refusal.BlockRefusal.TheVariants.{B7, B9}
 use Rattle.ledger_core.specs.declared.refusal.OfferFault.{OfferFault}
 use Rattle.ledger_core.specs.declared.unfinished.Changes.{Changes}
 use Rattle.ledger_core.specs.Blocks.{tip_of, txs_of}
 use Rattle.ledger_core.specs.Chain.{StandsFor}
-use Rattle.ledger_core.specs.Held.{Held}
+use Rattle.ledger_core.specs.LedgerModel.{LedgerModel}
 use Rattle.ledger_core.specs.Offering.{AreChanges, RefusesBy}
-use Rattle.ledger_core.specs.Refusal.{Refusal, Refuses, RefusesUnsealed, UnsealedRefusal, ValidNext, HasVerdictAfter, HasRefusedTx, header_lines, state_lines}
-use Rattle.ledger_core.specs.Roots.{Hash, output_ids, tx_root, unspent_root}
+use Rattle.ledger_core.specs.Refusal.{Refusal, Refuses, RefusesUnsealed, UnsealedRefusal, ValidNext, HasVerdictAfter, HasRefusedTx, header_causes, state_causes}
+use Rattle.ledger_core.specs.Roots.{output_ids, tx_root, unspent_root}
+use Rattle.keyed.specs.Functions.{Hash}
 use Rattle.ledger_core.specs.Unspent.{unspent_after}
 use Rattle.ledger_core.proofs.Chains.{not_empty}
 use Rattle.ledger_core.proofs.Refusals.{OneVerdict, IsOffered, by_program, by_nothing, refuses_by_header, refuses_by_state, unsealed_by_state, unsealed_refuses_by_header, unsealed_refuses_by_state}
@@ -34,12 +35,12 @@ module _ (hash : Hash) (check : Check) (blocks : List Block) (block : Block) (tx
   none_refused = subst (λ (all : List Tx). HoldsNot (HasRefusedTx hash check blocks block.header.time all)) same none
 
   -- the block names another root
-  pub by_another_root : block.header.unspent_root ≢ computed → First (state_lines hash check blocks block) (Some (B9 computed block.header.unspent_root))
+  pub by_another_root : block.header.unspent_root ≢ computed → First (state_causes hash check blocks block) (Some (B9 computed block.header.unspent_root))
   by_another_root differs = inr (none_refused, inl ((λ e. differs (e ∙ sym is_root)), ap (λ (found : List ℕ). B9 found block.header.unspent_root) is_root))
 
   -- it names this one
-  pub by_this_root : block.header.unspent_root ≡ computed → First (state_lines hash check blocks block) None
-  by_this_root e = (none_refused, (λ told h. h.0 (e ∙ is_root), tt))
+  pub by_this_root : block.header.unspent_root ≡ computed → First (state_causes hash check blocks block) None
+  by_this_root e = (none_refused, (λ reported h. h.0 (e ∙ is_root), tt))
 
 -- ---- a fault that is passed on
 
@@ -49,10 +50,10 @@ passed Tells fault (Err other) is h = subst Tells (sym is) h
 
 -- ---- to a ledger
 
-module _ (hash : Hash) (check : Check) (ledger : Held) (block : Block) (stands : StandsFor hash check ledger) where
+module _ (hash : Hash) (check : Check) (ledger : LedgerModel) (block : Block) (stands : StandsFor hash check ledger) where
   -- B1 to B6, by what the ledger keeps
-  abbrev Header : Block → List (Line BlockRefusal)
-  Header tip = header_lines ledger.tip_id (tx_root hash block) tip.header block.header
+  abbrev Header : Block → List (Cause BlockRefusal)
+  Header tip = header_causes ledger.tip_id (tx_root hash block) tip.header block.header
 
   -- what holds of the last block
   abbrev AtTip : (Block → Type 0) → Type 0
@@ -82,23 +83,23 @@ module _ (hash : Hash) (check : Check) (ledger : Held) (block : Block) (stands :
 
     -- the block as it is lent and given back
     module _ (one : OneVerdict) (left : ℕ) (is : verdict ≡ Succeeded left) (lent : Block) (same : lent ≡ block) where
-      pub refused_state : (fault : OfferFault) → RefusesBy (state_lines hash check ledger.blocks lent) fault → Refuses hash check ledger.blocks block fault
+      pub refused_state : (fault : OfferFault) → RefusesBy (state_causes hash check ledger.blocks lent) fault → Refuses hash check ledger.blocks block fault
       refused_state fault h =
           refuses_by_state hash check ledger.blocks block last ledger.tip_id (offered last is_last) one left (none last is_last) (subst Has is has) fault
-          (subst (λ (b : Block). RefusesBy (state_lines hash check ledger.blocks b) fault) same h)
+          (subst (λ (b : Block). RefusesBy (state_causes hash check ledger.blocks b) fault) same h)
 
-      pub accepted : First (state_lines hash check ledger.blocks lent) None → ValidNext hash check ledger.blocks block
+      pub accepted : First (state_causes hash check ledger.blocks lent) None → ValidNext hash check ledger.blocks block
       accepted h =
           by_nothing hash check ledger.blocks block last ledger.tip_id (offered last is_last) one left (none last is_last) (subst Has is has)
-          (subst (λ (b : Block). First (state_lines hash check ledger.blocks b) None) same h)
+          (subst (λ (b : Block). First (state_causes hash check ledger.blocks b) None) same h)
 
   -- ---- the same of a block that is not sealed
 
   pub unsealed_begun : (fault : OfferFault) → AtTip (λ last. RefusesBy (Header last) fault) → RefusesUnsealed hash check ledger.blocks block fault
   unsealed_begun fault h = unsealed_refuses_by_header hash check ledger.blocks block tip ledger.tip_id (offered tip is_tip) fault (h tip is_tip)
 
-  pub unsealed_state : NoneOfHeader → (fault : OfferFault) → RefusesBy (state_lines hash check ledger.blocks block) fault → RefusesUnsealed hash check ledger.blocks block fault
+  pub unsealed_state : NoneOfHeader → (fault : OfferFault) → RefusesBy (state_causes hash check ledger.blocks block) fault → RefusesUnsealed hash check ledger.blocks block fault
   unsealed_state none fault h = unsealed_refuses_by_state hash check ledger.blocks block tip ledger.tip_id (offered tip is_tip) (none tip is_tip) fault h
 
-  pub unsealed_accepted : NoneOfHeader → First (state_lines hash check ledger.blocks block) None → UnsealedRefusal hash check ledger.blocks block None
+  pub unsealed_accepted : NoneOfHeader → First (state_causes hash check ledger.blocks block) None → UnsealedRefusal hash check ledger.blocks block None
   unsealed_accepted none h = unsealed_by_state hash check ledger.blocks block tip ledger.tip_id (offered tip is_tip) None (none tip is_tip) h

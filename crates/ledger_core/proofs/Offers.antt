@@ -1,9 +1,9 @@
 -- What a list of offers makes of some blocks.
 use Rattle.std.proofs.Common.{◌≡◌, ◌<◌, List, [], ◌∷◌, ◌++◌, length, Option, Some, None, refl, sym, ◌∙◌, ap, subst, arith, length-append}
 use Rattle.data_model.specs.declared.block.Block.{Block}
-use Rattle.vm_run.specs.Row.{Check}
+use Rattle.keyed.specs.Functions.{Check}
 use Rattle.ledger_core.specs.declared.refusal.BlockRefusal.{BlockRefusal}
-use Rattle.ledger_core.specs.Roots.{Hash}
+use Rattle.keyed.specs.Functions.{Hash}
 use Rattle.ledger_core.specs.Refusal.{Refusal}
 use Rattle.ledger_core.specs.Chain.{Chain, Accepted, after_offer}
 use Rattle.ledger_core.proofs.Refusals.{Known, some_refusal, one_refusal}
@@ -15,11 +15,11 @@ kept hash check start [] final (v ∷ verdicts) chain a = absurd a
 kept hash check start (offer ∷ offers) final [] chain a = absurd a
 kept hash check start (offer ∷ offers) final (None ∷ verdicts) chain a =
     kept hash check (start ++ offer ∷ []) offers final verdicts (grows hash check start offer chain a.0) a.1
-kept hash check start (offer ∷ offers) final (Some line ∷ verdicts) chain a = kept hash check start offers final verdicts chain a.1
+kept hash check start (offer ∷ offers) final (Some cause ∷ verdicts) chain a = kept hash check start offers final verdicts chain a.1
 
 still_some : (start : List Block) (offer : Block) (verdict : Option BlockRefusal) → 0 < length start → 0 < length (after_offer start offer verdict)
 still_some start offer None h = omega (arith, length-append start (offer ∷ []))
-still_some start offer (Some line) h = h
+still_some start offer (Some cause) h = h
 
 pub some : Known → (hash : Hash) (check : Check) (start offers : List Block) → 0 < length start → (final : List Block) × (verdicts : List (Option BlockRefusal)) × Accepted hash check start offers final verdicts
 some known hash check start [] h = (start, [], refl)

@@ -11,7 +11,8 @@ use Rattle.merkle.specs.Laws.{IsId}
 use Rattle.merkle.specs.Roots.{list_root, root_within}
 use Rattle.tx_check.specs.View.{Unspent}
 use Rattle.ledger_core.specs.declared.unfinished.Changes.{Changes}
-use Rattle.ledger_core.specs.Roots.{Hash, output_ids, root_of_none}
+use Rattle.ledger_core.specs.Roots.{output_ids, root_of_none}
+use Rattle.keyed.specs.Functions.{Hash}
 use Rattle.ledger_core.specs.Unspent.{left_of, unspent_after}
 use Rattle.ledger_core.specs.Offering.{AreAllIds, AreChanges}
 use Rattle.ledger_core.proofs.Unspents.{left_of_none, unspent_more}

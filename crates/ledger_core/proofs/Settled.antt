@@ -7,13 +7,13 @@ use Rattle.std.proofs.lemmas.Bool.{cases_lt}
 use Rattle.data_model.specs.declared.block.Block.{Block}
 use Rattle.data_model.specs.declared.tx.Tx.{Tx}
 use Rattle.entry_ids.specs.Entry.{header_id}
-use Rattle.vm_run.specs.Row.{Check}
+use Rattle.keyed.specs.Functions.{Check}
 use Rattle.tx_check.specs.View.{Unspent}
 use Rattle.ledger_core.specs.declared.refusal.BlockRefusal.TheVariants.{B3}
 use Rattle.ledger_core.specs.declared.unfinished.LiveNonce.{LiveNonce}
 use Rattle.ledger_core.specs.Blocks.{tip_of, txs_of, time_of}
-use Rattle.ledger_core.specs.Held.{Held, IsSpellable}
-use Rattle.ledger_core.specs.Roots.{Hash}
+use Rattle.ledger_core.specs.LedgerModel.{LedgerModel, IsSpellable}
+use Rattle.keyed.specs.Functions.{Hash}
 use Rattle.ledger_core.specs.Refusal.{ValidNext}
 use Rattle.ledger_core.specs.Chain.{Chain, StandsFor}
 use Rattle.ledger_core.specs.State.{id_of}
@@ -46,7 +46,7 @@ later hash check blocks block valid = elim (cases_lt valid.tip.header.time block
 -- ---- the ledger
 
 -- what a ledger keeps with a block more
-pub record IsSettled (hash : Hash) (ledger : Held) (block : Block) (after : Held) : Type 0 where
+pub record IsSettled (hash : Hash) (ledger : LedgerModel) (block : Block) (after : LedgerModel) : Type 0 where
   pub blocks : after.blocks ≡ ledger.blocks ++ block ∷ []
   pub tip_id : after.tip_id ≡ header_id hash block.header
   pub initial : after.initial ≡ ledger.initial
@@ -54,7 +54,7 @@ pub record IsSettled (hash : Hash) (ledger : Held) (block : Block) (after : Held
   pub unspent : after.unspent ≡ left_of (flat_map (spent_by hash) block.txs) ledger.unspent ++ unspent_after hash block.txs
   pub live : after.live ≡ live_at block.header.time (ledger.live ++ used hash block.txs)
 
-pub stands_settled : (hash : Hash) (check : Check) (ledger : Held) (block : Block) (after : Held) → StandsFor hash check ledger
+pub stands_settled : (hash : Hash) (check : Check) (ledger : LedgerModel) (block : Block) (after : LedgerModel) → StandsFor hash check ledger
     → ValidNext hash check ledger.blocks block → IsSpellable block → IsSettled hash ledger block after → StandsFor hash check after
 stands_settled hash check ledger block after stands valid within h = record {
   chain = subst (Chain hash check) (sym h.blocks) (grows hash check ledger.blocks block stands.chain valid);

@@ -4,11 +4,12 @@ use Rattle.data_model.specs.declared.block.Block.{Block}
 use Rattle.data_model.specs.declared.tx.Tx.{Tx}
 use Rattle.data_model.specs.Spelling.{IsHeader, AreTxs}
 use Rattle.entry_ids.specs.Entry.{header_id}
-use Rattle.vm_run.specs.Row.{Check}
+use Rattle.keyed.specs.Functions.{Check}
 use Rattle.ledger_core.specs.declared.refusal.StartFault.TheVariants.{NotEmpty}
 use Rattle.ledger_core.specs.Blocks.{tip_of, txs_of, time_of}
-use Rattle.ledger_core.specs.Held.{Held, IsSpellable}
-use Rattle.ledger_core.specs.Roots.{Hash, root_of_none}
+use Rattle.ledger_core.specs.LedgerModel.{LedgerModel, IsSpellable}
+use Rattle.ledger_core.specs.Roots.{root_of_none}
+use Rattle.keyed.specs.Functions.{Hash}
 use Rattle.ledger_core.specs.Start.{StartRefusal}
 use Rattle.ledger_core.specs.Chain.{StandsFor}
 use Rattle.ledger_core.specs.Unspent.{unspent_after, live_at, used}
@@ -27,7 +28,7 @@ spellable block header none = record {
   txs = subst (λ (txs : List Tx). AreTxs txs) (sym none) (record { count = omega arith; each = tt; within = omega arith });
 }
 
-pub stands_started : (hash : Hash) (check : Check) (block : Block) (held : Held) → StartRefusal hash block None → IsHeader block.header
+pub stands_started : (hash : Hash) (check : Check) (block : Block) (held : LedgerModel) → StartRefusal hash block None → IsHeader block.header
     → held.blocks ≡ block ∷ [] → held.initial ≡ header_id hash block.header → held.tip_id ≡ header_id hash block.header
     → held.empty_root ≡ root_of_none hash → held.unspent ≡ [] → held.live ≡ [] → StandsFor hash check held
 stands_started hash check block held starts header blocks initial tip_id empty_root unspent live =

@@ -1,17 +1,17 @@
--- What a ledger shows, alone and behind the first transactions of a block, is the state of its blocks.
+-- What a ledger shows, alone and after the first transactions of a block, is the state of its blocks.
 use Rattle.std.proofs.Common.{◌≡◌, ℕ, List, [], ◌∷◌, ◌++◌, sym, ◌∙◌, ap, append-nil}
 use Rattle.std.specs.List.{flat_map}
 use Rattle.std.proofs.lemmas.List.Concat.{flat_map-append}
 use Rattle.data_model.specs.declared.tx.Tx.{Tx}
-use Rattle.vm_run.specs.Row.{Check}
+use Rattle.keyed.specs.Functions.{Check}
 use Rattle.tx_check.specs.View.{Unspent}
 use Rattle.ledger_core.specs.declared.unfinished.Changes.{Changes}
 use Rattle.ledger_core.specs.declared.unfinished.LiveNonce.{LiveNonce}
 use Rattle.ledger_core.specs.Blocks.{tip_of, txs_of, time_of}
 use Rattle.ledger_core.specs.Chain.{StandsFor}
-use Rattle.ledger_core.specs.Held.{Held, shown, shown_with}
+use Rattle.ledger_core.specs.LedgerModel.{LedgerModel, shown, shown_with}
 use Rattle.ledger_core.specs.Offering.{AreChanges}
-use Rattle.ledger_core.specs.Roots.{Hash}
+use Rattle.keyed.specs.Functions.{Hash}
 use Rattle.ledger_core.specs.State.{state_after, ids_of}
 use Rattle.ledger_core.specs.Unspent.{left_of, made_by, spent_by, unspent_after, used, used_by, live_at}
 use Rattle.ledger_core.proofs.Unspents.{unspent_more, unspent_then, used_more}
@@ -39,7 +39,7 @@ changes_none hash changes made spent used_are = record { made = made; spent = sp
 
 -- ---- states
 
-module _ (hash : Hash) (check : Check) (ledger : Held) (stands : StandsFor hash check ledger) where
+module _ (hash : Hash) (check : Check) (ledger : LedgerModel) (stands : StandsFor hash check ledger) where
   -- the ids of the nonces that are live after the blocks
   abbrev live_before : List (List ℕ)
   live_before = ids_of (live_at (time_of (tip_of ledger.blocks)) (used hash (txs_of ledger.blocks)))
@@ -56,7 +56,7 @@ module _ (hash : Hash) (check : Check) (ledger : Held) (stands : StandsFor hash 
       ap (λ (xs : List LiveNonce). ids_of xs ++ ids_of changes.used.items) stands.live
       ∙ ap (λ (xs : List LiveNonce). live_before ++ ids_of xs) are.used_are
 
-  -- behind some transactions
+  -- after some transactions
   pub shown_with_is : (txs : List Tx) (changes : Changes) → AreChanges hash txs changes → shown_with ledger changes.made.items changes.spent.items changes.used.items ≡ state_after hash ledger.blocks txs
   shown_with_is txs changes are = λ i. record {
     initial = stands.initial i;

@@ -5,9 +5,9 @@ use Rattle.std.proofs.lemmas.List.{take_more}
 use Rattle.data_model.specs.declared.tx.Tx.{Tx}
 use Rattle.data_model.specs.Transaction.{IsTx}
 use Rattle.entry_ids.specs.declared.tx.TxIds.{TxIds}
-use Rattle.entry_ids.specs.Entry.{Hash}
+use Rattle.keyed.specs.Functions.{Hash}
 use Rattle.entry_ids.specs.Ids.{AreIds}
-use Rattle.tx_check.specs.FirstPlaces.{StandsAt}
+use Rattle.wire.specs.Lists.{StandsAt}
 use Rattle.ledger_core.specs.Offering.{AreAllIds}
 
 -- one transaction more at the front

@@ -7,10 +7,11 @@ use Rattle.std.proofs.lemmas.Bool.Decides.{nat_tests}
 use Rattle.std.proofs.lemmas.Grind.{flat_map-append}
 use Rattle.std.proofs.lemmas.List.Elements.{filter-append}
 use Rattle.data_model.specs.declared.tx.Tx.{Tx}
-use Rattle.entry_ids.specs.Entry.{Hash}
+use Rattle.keyed.specs.Functions.{Hash}
 use Rattle.tx_check.specs.View.{Unspent}
 use Rattle.ledger_core.specs.declared.unfinished.LiveNonce.{LiveNonce}
-use Rattle.ledger_core.specs.Unspent.{is_among, left_of, made_by, spent_by, unspent_after, live_at, used, used_by}
+use Rattle.ledger_core.specs.Unspent.{left_of, made_by, spent_by, unspent_after, live_at, used, used_by}
+use Rattle.wire.specs.Strings.{is_among}
 
 -- ---- what is left
 
@@ -44,7 +45,7 @@ left_of_none (o ∷ outputs) = ap (λ (rest : List Unspent). o ∷ rest) (left_o
 pub left_of_both : (spent : List (List ℕ)) (xs ys : List Unspent) → left_of spent (xs ++ ys) ≡ left_of spent xs ++ left_of spent ys
 left_of_both spent xs ys = filter-append (λ o. not (is_among spent o.id)) xs ys
 
--- ---- transactions behind others
+-- ---- transactions after others
 
 -- what is unspent after some transactions and then others
 pub unspent_more : (hash : Hash) (txs later : List Tx)

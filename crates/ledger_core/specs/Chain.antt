@@ -3,10 +3,11 @@ use Rattle.std.specs.Prelude.{◌≡◌, List, [], ◌∷◌, ◌++◌, slice_ge
 use Rattle.std.specs.List.{AllByRecursion}
 use Rattle.data_model.specs.declared.block.Block.{Block}
 use Rattle.entry_ids.specs.Entry.{header_id}
-use Rattle.vm_run.specs.Row.{Check}
+use Rattle.keyed.specs.Functions.{Check}
 use Rattle.ledger_core.specs.declared.refusal.BlockRefusal.{BlockRefusal}
-use Rattle.ledger_core.specs.Held.{Held, IsSpellable}
-use Rattle.ledger_core.specs.Roots.{Hash, root_of_none}
+use Rattle.ledger_core.specs.LedgerModel.{LedgerModel, IsSpellable}
+use Rattle.ledger_core.specs.Roots.{root_of_none}
+use Rattle.keyed.specs.Functions.{Hash}
 use Rattle.ledger_core.specs.Start.{StartRefusal}
 use Rattle.ledger_core.specs.Blocks.{tip_of, txs_of, time_of}
 use Rattle.ledger_core.specs.Refusal.{Refusal, ValidNext}
@@ -29,7 +30,7 @@ Chain hash check (initial ∷ later) = StartRefusal hash initial None × GoesOn 
 -- An offer with no refusal is added at the end, and another one is dropped.
 abbrev pub after_offer : List Block → Block → Option BlockRefusal → List Block
 after_offer blocks offer None = blocks ++ offer ∷ []
-after_offer blocks offer (Some line) = blocks
+after_offer blocks offer (Some cause) = blocks
 
 -- The offers one after the other, each with its verdict: its refusal after the blocks that there are then, or none. The
 -- final blocks are those after the last of them.
@@ -45,7 +46,7 @@ Accepted hash check blocks (offer ∷ offers) final (verdict ∷ verdicts) =
 
 -- A ledger stands for a hash and a check of signatures: its blocks are a chain under them, each within the limits of
 -- spelling, and what it keeps is what they show.
-pub record StandsFor (hash : Hash) (check : Check) (ledger : Held) : Type 0 where
+pub record StandsFor (hash : Hash) (check : Check) (ledger : LedgerModel) : Type 0 where
   pub chain : Chain hash check ledger.blocks
   pub within : AllByRecursion IsSpellable ledger.blocks
   pub tip_id : (tip : Block) → tip_of ledger.blocks ≡ Some tip → ledger.tip_id ≡ header_id hash tip.header

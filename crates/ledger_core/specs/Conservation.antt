@@ -5,8 +5,7 @@ use Rattle.data_model.specs.declared.block.Block.{Block}
 use Rattle.data_model.specs.declared.input.Input.{Input}
 use Rattle.data_model.specs.declared.output.Output.{Output}
 use Rattle.data_model.specs.declared.tx.Tx.{Tx}
-use Rattle.entry_ids.specs.Entry.{Hash}
-use Rattle.vm_run.specs.Row.{Check}
+use Rattle.keyed.specs.Functions.{Hash, Check}
 use Rattle.tx_check.specs.Table.{units}
 use Rattle.tx_check.specs.View.{Unspent}
 use Rattle.ledger_core.specs.Blocks.{txs_of}

@@ -1,29 +1,30 @@
 -- What holds of refusals, chains and offers.
 use Rattle.std.specs.Prelude.{◌≡◌, ◌<◌, ◌↔◌, List, [], ◌∷◌, ◌++◌, length, Option, Some, None}
 use Rattle.data_model.specs.declared.block.Block.{Block}
-use Rattle.vm_run.specs.Row.{Check}
+use Rattle.keyed.specs.Functions.{Check}
 use Rattle.ledger_core.specs.declared.refusal.BlockRefusal.{BlockRefusal}
 use Rattle.wire.specs.Tables.{OneAnswer}
-use Rattle.ledger_core.specs.Roots.{Hash, root_of_none}
-use Rattle.ledger_core.specs.Start.{start_lines, StartRefusal}
-use Rattle.ledger_core.specs.Refusal.{block_lines, unsealed_lines, Refusal, UnsealedRefusal, ValidNext, tip_of}
+use Rattle.ledger_core.specs.Roots.{root_of_none}
+use Rattle.keyed.specs.Functions.{Hash}
+use Rattle.ledger_core.specs.Start.{start_causes, StartRefusal}
+use Rattle.ledger_core.specs.Refusal.{block_causes, unsealed_causes, Refusal, UnsealedRefusal, ValidNext, tip_of}
 use Rattle.ledger_core.specs.Valid.{IsInitial, Extends}
 use Rattle.ledger_core.specs.Chain.{Chain, Accepted, after_offer}
 
 -- of each table there is one answer
 pub record TableLaws (hash : Hash) (check : Check) : Type 0 where
-  pub start : (block : Block) → OneAnswer (start_lines (root_of_none hash) block)
-  pub next : (blocks : List Block) (tip block : Block) → OneAnswer (block_lines hash check blocks tip.header block)
+  pub start : (block : Block) → OneAnswer (start_causes (root_of_none hash) block)
+  pub next : (blocks : List Block) (tip block : Block) → OneAnswer (block_causes hash check blocks tip.header block)
   pub unsealed :
       (blocks : List Block) (tip block : Block)
-      → OneAnswer (unsealed_lines hash check blocks tip.header block)
+      → OneAnswer (unsealed_causes hash check blocks tip.header block)
 
 -- a block that is offered after some blocks has a refusal or none, and no two; sealed, and not sealed as yet
 pub record RefusalLaws (hash : Hash) (check : Check) : Type 0 where
   pub some :
       (blocks : List Block) (block : Block)
       → 0 < length blocks
-      → (line : Option BlockRefusal) × Refusal hash check blocks block line
+      → (cause : Option BlockRefusal) × Refusal hash check blocks block cause
   pub one :
       (blocks : List Block) (block : Block) (a b : Option BlockRefusal)
       → Refusal hash check blocks block a
@@ -32,7 +33,7 @@ pub record RefusalLaws (hash : Hash) (check : Check) : Type 0 where
   pub unsealed_some :
       (blocks : List Block) (block : Block)
       → 0 < length blocks
-      → (line : Option BlockRefusal) × UnsealedRefusal hash check blocks block line
+      → (cause : Option BlockRefusal) × UnsealedRefusal hash check blocks block cause
   pub unsealed_one :
       (blocks : List Block) (block : Block) (a b : Option BlockRefusal)
       → UnsealedRefusal hash check blocks block a

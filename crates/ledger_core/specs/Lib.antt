@@ -1,7 +1,7 @@
 pub mod Blocks
 pub mod Unspent
 pub mod State
-pub mod Held
+pub mod LedgerModel
 pub mod Roots
 pub mod Start
 pub mod Refusal

@@ -1,15 +1,12 @@
 -- The two roots that a block names.
 use Rattle.std.specs.Prelude.{ℕ, List, [], map, ◌++◌}
+use Rattle.keyed.specs.Functions.{Hash}
 use Rattle.data_model.specs.declared.block.Block.{Block}
 use Rattle.entry_ids.specs.Ids.{tx_id}
 use Rattle.merkle.specs.Roots.{list_root, set_root}
 use Rattle.tx_check.specs.View.{Unspent}
 use Rattle.ledger_core.specs.Blocks.{txs_of}
 use Rattle.ledger_core.specs.Unspent.{unspent_after}
-
--- a hash, as a function of bytes
-abbrev pub Hash : Type 0
-Hash = List ℕ → List ℕ
 
 -- the root of no ids, as a list and as a set
 abbrev pub root_of_none : Hash → List ℕ

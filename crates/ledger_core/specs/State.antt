@@ -2,7 +2,8 @@
 use Rattle.std.specs.Prelude.{ℕ, List, [], ◌++◌, map, slice_get, Option, Some, None}
 use Rattle.data_model.specs.declared.block.Block.{Block}
 use Rattle.data_model.specs.declared.tx.Tx.{Tx}
-use Rattle.entry_ids.specs.Entry.{Hash, header_id}
+use Rattle.entry_ids.specs.Entry.{header_id}
+use Rattle.keyed.specs.Functions.{Hash}
 use Rattle.tx_check.specs.View.{State}
 use Rattle.ledger_core.specs.Blocks.{tip_of, txs_of, time_of}
 use Rattle.ledger_core.specs.Unspent.{unspent_after, used, live_at}

@@ -1,11 +1,12 @@
 -- The outputs that transactions make and leave unspent, and the nonces that they use, for any hash.
-use Rattle.std.specs.Prelude.{ℕ, Bool, not, List, [], ◌∷◌, ◌++◌, Option, Some, None, bytes_eq, nat_le}
-use Rattle.std.specs.List.{flat_map, filter, list_any, enumerate_from}
+use Rattle.std.specs.Prelude.{ℕ, not, List, [], ◌∷◌, ◌++◌, Option, Some, None, nat_le}
+use Rattle.std.specs.List.{flat_map, filter, enumerate_from}
+use Rattle.wire.specs.Strings.{is_among}
 use Rattle.data_model.specs.declared.output.Output.{Output}
 use Rattle.data_model.specs.declared.output_body.OutputBody.{OutputBody}
 use Rattle.data_model.specs.declared.tx.Tx.{Tx}
 use Rattle.entry_ids.specs.declared.input.Named.{Named}
-use Rattle.entry_ids.specs.Entry.{Hash}
+use Rattle.keyed.specs.Functions.{Hash}
 use Rattle.entry_ids.specs.Ids.{mux_id, output_id, result_data}
 use Rattle.tx_check.specs.Table.{named_by}
 use Rattle.tx_check.specs.View.{Unspent}
@@ -52,10 +53,6 @@ output_named (Named.Output id) = id ∷ []
 -- the ids of the outputs that a transaction spends, in order
 abbrev pub spent_by : Hash → Tx → List (List ℕ)
 spent_by hash tx = flat_map output_named (named_by hash tx)
-
--- one of these is the id
-abbrev pub is_among : List (List ℕ) → List ℕ → Bool
-is_among ids id = list_any (λ other. bytes_eq other id) ids
 
 -- those of these outputs whose id is none of these
 abbrev pub left_of : (spent : List (List ℕ)) → List Unspent → List Unspent

@@ -3,8 +3,9 @@ use Rattle.std.specs.Prelude.{◌≡◌, ℕ, ◌+◌, ◌<◌, List, [], replic
 use Rattle.data_model.specs.declared.block.Block.{Block}
 use Rattle.entry_ids.specs.Entry.{header_id}
 use Rattle.vm_run.specs.declared.verdict.Verdict.TheVariants.{Succeeded}
-use Rattle.vm_run.specs.Row.{Check}
-use Rattle.ledger_core.specs.Roots.{Hash, root_of_none, tx_root, unspent_root}
+use Rattle.keyed.specs.Functions.{Check}
+use Rattle.ledger_core.specs.Roots.{root_of_none, tx_root, unspent_root}
+use Rattle.keyed.specs.Functions.{Hash}
 use Rattle.data_model.specs.declared.tx.Tx.{Tx}
 use Rattle.tx_check.specs.Table.{TxValid}
 use Rattle.ledger_core.specs.Refusal.{HasVerdictAfter}

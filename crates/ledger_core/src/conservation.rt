@@ -1,6 +1,5 @@
 //! Conservation, as the contract of a function with nothing to do.
-ghost use Rattle.entry_ids.specs.Entry.{Hash};
-ghost use Rattle.vm_run.specs.Row.{Check};
+ghost use Rattle.keyed.specs.Functions.{Hash, Check};
 ghost use Rattle.ledger_core.specs.Conservation.{Conserves};
 
 use crate::valid_blocks;

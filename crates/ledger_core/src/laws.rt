@@ -1,6 +1,5 @@
 //! Laws of the definitions, each the contract of a function with nothing to do.
-ghost use Rattle.vm_run.specs.Row.{Check};
-ghost use Rattle.ledger_core.specs.Roots.{Hash};
+ghost use Rattle.keyed.specs.Functions.{Check, Hash};
 ghost use Rattle.ledger_core.specs.Laws.{TableLaws, RefusalLaws, ValidLaws, ChainLaws, OfferLaws};
 
 use tx_check::laws as tx_laws;
@@ -8,7 +7,7 @@ use vm_run::laws::one_verdict;
 
 /// Of the table of what may be wrong with an initial block there is one answer, and one of the table of refusals, with
 /// and without B7.
-pub fn one_line()
+pub fn one_refusal_of_blocks()
     ensures { (hash : Hash) (check : Check) → TableLaws hash check }
 {
     one_verdict();

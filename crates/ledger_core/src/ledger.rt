@@ -1,8 +1,9 @@
+//! The ledger: its blocks, and what is unspent and live after them.
 ghost use Rattle.std.specs.Prelude.{◌≡◌, Some};
 ghost use Rattle.data_model.specs.declared.block.Block.{Block};
-ghost use Rattle.data_model.specs.Spelling.{IsString};
+ghost use Rattle.data_model.specs.Limits.{IsString};
 ghost use Rattle.ledger_core.specs.Blocks.{tip_of};
-ghost use Rattle.ledger_core.specs.Held.{IsSpellable};
+ghost use Rattle.ledger_core.specs.LedgerModel.{IsSpellable};
 
 use crate::{LiveNonce, Unspent};
 use data_model::{Block, Blocks};
@@ -25,9 +26,9 @@ pub struct Ledger {
 impl Model for Ledger {
     ghost use Rattle.std.specs.Prelude.{◌<◌, length};
     ghost use Rattle.std.specs.List.{AllByRecursion};
-    ghost use Rattle.ledger_core.specs.Held.{Held, IsSpellable};
+    ghost use Rattle.ledger_core.specs.LedgerModel.{LedgerModel, IsSpellable};
 
-    ghost Value = { Held };
+    ghost Value = { LedgerModel };
 
     ghost view = { λ ledger. record {
       blocks = ledger.blocks;

@@ -16,7 +16,7 @@ mod txs;
 mod unfinished;
 
 pub use conservation::conserved_units;
-pub use laws::{accepted_offers, growing_chains, one_line, one_refusal, valid_blocks};
+pub use laws::{accepted_offers, growing_chains, one_refusal, one_refusal_of_blocks, valid_blocks};
 pub use ledger::{Ledger, Tip};
 pub use offer::Accepted;
 pub use refusal::{BlockRefusal, OfferFault, StartFault};

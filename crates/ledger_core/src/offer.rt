@@ -1,13 +1,15 @@
+//! Blocks offered to a ledger.
 ghost use Rattle.std.specs.Prelude.{◌≡◌, ◌<◌, ◌≤◌, ◌^◌, ◌++◌, [], ◌∷◌, length, Some, None, IfOk, IfErr, OnOk, OnErr};
 ghost use Rattle.data_model.specs.declared.block.Block.{Block};
 ghost use Rattle.entry_ids.specs.Entry.{header_id};
 ghost use Rattle.vm_run.specs.declared.context.BlockContext.{BlockContext};
 ghost use Rattle.wire.specs.Tables.{First};
 ghost use Rattle.ledger_core.specs.Blocks.{tip_of};
-ghost use Rattle.ledger_core.specs.Held.{IsSpellable};
-ghost use Rattle.ledger_core.specs.Roots.{Hash, root_of_none, tx_root};
+ghost use Rattle.ledger_core.specs.LedgerModel.{IsSpellable};
+ghost use Rattle.ledger_core.specs.Roots.{root_of_none, tx_root};
+ghost use Rattle.keyed.specs.Functions.{Hash};
 ghost use Rattle.ledger_core.specs.Refusal.{Refuses, RefusesUnsealed, UnsealedRefusal, ValidNext, HasVerdictAfter};
-ghost use Rattle.ledger_core.specs.Refusal.{chain_lines, header_lines, state_lines};
+ghost use Rattle.ledger_core.specs.Refusal.{chain_causes, header_causes, state_causes};
 ghost use Rattle.ledger_core.specs.Chain.{StandsFor};
 ghost use Rattle.ledger_core.specs.Offering.{AreAllIds, AreChanges, RefusesBy};
 
@@ -35,7 +37,7 @@ pub struct Accepted {
 
 impl Ledger {
     /// Adds a block at the end where it validly extends the chain. A refused block is dropped, and the ledger stays as
-    /// it was, where memory is wanted too.
+    /// it was, where memory runs out too.
     pub fn offer<H: IdHash, C: SigCheck>(
         &mut self,
         alloc: Global,
@@ -56,7 +58,7 @@ impl Ledger {
         ensures stands { StandsFor (H.hash_of hash.now) (C.good_of sigs.now) self.new }
     {
         let mut block = block;
-        let (id, changes) = self.checked(alloc, hash, sigs, &mut block)?;
+        let (id, changes) = self.check_block(alloc, hash, sigs, &mut block)?;
         let height = block.header.height;
         self.settle(block, id, changes)?;
         Ok(Accepted { height, id })
@@ -79,15 +81,15 @@ impl Ledger {
         ensures refused { IfErr result
             (RefusesUnsealed (H.hash_of hash.now) (C.good_of sigs.now) self.now.blocks block.now) }
     {
-        let ids = self.begun(alloc, hash, block)?;
-        self.changed(alloc, hash, sigs, block, ids.as_slice())?;
+        let ids = self.check_header(alloc, hash, block)?;
+        self.check_state(alloc, hash, sigs, block, ids.as_slice())?;
         Ok(())
     }
 
     // The id of a block that validly extends the chain, and what its transactions change. Its header and each
     // transaction are hashed once, and the program is run at most once. A block that is refused may be left without its
     // program.
-    fn checked<H: IdHash, C: SigCheck>(
+    fn check_block<H: IdHash, C: SigCheck>(
         &self,
         alloc: Global,
         hash: &H,
@@ -106,18 +108,18 @@ impl Ledger {
         ensures same { OnOk result (block.new ≡ block.old) }
     {
         one_verdict();
-        let ids = self.begun(alloc, hash, block)?;
+        let ids = self.check_header(alloc, hash, block)?;
         let id = block_id(alloc, hash, &block.header)?;
         let verdict = verdict_after(alloc, sigs, &self.tip_block().header, id, block)?;
         if let Verdict::Failed { kind, at } = verdict {
             return Err(OfferFault::Refused(BlockRefusal::B7 { kind, at }));
         }
-        let changes = self.changed(alloc, hash, sigs, block, ids.as_slice())?;
+        let changes = self.check_state(alloc, hash, sigs, block, ids.as_slice())?;
         Ok((id, changes))
     }
 
     // The ids of the transactions of a block of which none of B1 to B6 holds.
-    fn begun<H: IdHash>(
+    fn check_header<H: IdHash>(
         &self,
         alloc: Global,
         hash: &H,
@@ -130,15 +132,15 @@ impl Ledger {
         ensures valid { (tip : Block)
             → tip_of self.now.blocks ≡ Some tip
             → let root = tx_root (H.hash_of hash.now) block.now in
-            OnOk result (First (header_lines self.now.tip_id root tip.header block.now.header) None) }
+            OnOk result (First (header_causes self.now.tip_id root tip.header block.now.header) None) }
         ensures refused { (tip : Block)
             → tip_of self.now.blocks ≡ Some tip
             → let root = tx_root (H.hash_of hash.now) block.now in
-            IfErr result (RefusesBy (header_lines self.now.tip_id root tip.header block.now.header)) }
+            IfErr result (RefusesBy (header_causes self.now.tip_id root tip.header block.now.header)) }
     {
         let tip = &self.tip_block().header;
-        if let Some(line) = before_root(tip, &self.tip_id, &block.header) {
-            return Err(OfferFault::Refused(line));
+        if let Some(cause) = before_root(tip, &self.tip_id, &block.header) {
+            return Err(OfferFault::Refused(cause));
         }
         let ids = all_ids(alloc, hash, block.txs.as_slice())?;
         let computed = self.root_of_txs(alloc, hash, ids.as_slice())?;
@@ -150,7 +152,7 @@ impl Ledger {
     }
 
     // What the transactions of a block change, by their ids, where neither B8 nor B9 holds.
-    fn changed<H: IdHash, C: SigCheck>(
+    fn check_state<H: IdHash, C: SigCheck>(
         &self,
         alloc: Global,
         hash: &H,
@@ -162,10 +164,10 @@ impl Ledger {
         requires within { IsSpellable block.now }
         requires ids { AreAllIds (H.hash_of hash.now) block.now.txs ids.now }
         ensures valid { OnOk result
-            (First (state_lines (H.hash_of hash.now) (C.good_of sigs.now) self.now.blocks block.now) None) }
+            (First (state_causes (H.hash_of hash.now) (C.good_of sigs.now) self.now.blocks block.now) None) }
         ensures changes { IfOk result (AreChanges (H.hash_of hash.now) block.now.txs) }
         ensures refused { IfErr result (RefusesBy
-            (state_lines (H.hash_of hash.now) (C.good_of sigs.now) self.now.blocks block.now)) }
+            (state_causes (H.hash_of hash.now) (C.good_of sigs.now) self.now.blocks block.now)) }
     {
         let time = block.header.time;
         let changes = self.changes_of(alloc, hash, sigs, time, block.txs.as_slice(), ids)?;
@@ -181,7 +183,7 @@ impl Ledger {
 // The first of B1 to B4 that holds.
 fn before_root(tip: &Header, tip_id: &Id, header: &Header) -> Option<BlockRefusal>
     requires room { tip.now.height < 2 ^ 63 }
-    ensures { First (chain_lines tip_id.now tip.now header.now) result }
+    ensures { First (chain_causes tip_id.now tip.now header.now) result }
 {
     if header.previous != *tip_id {
         return Some(BlockRefusal::B1 {

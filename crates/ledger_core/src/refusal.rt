@@ -1,3 +1,4 @@
+//! Why a block is not added, and why one starts no chain.
 ghost use Rattle.std.specs.Prelude.{◌≡◌};
 ghost use Rattle.ledger_core.specs.declared.refusal.OfferFault.TheVariants as offers;
 ghost use Rattle.ledger_core.specs.declared.refusal.StartFault.TheVariants as starts;
@@ -36,7 +37,7 @@ pub enum BlockRefusal {
 pub enum OfferFault {
     /// It does not extend the chain.
     Refused(BlockRefusal),
-    /// Memory was wanted and not found.
+    /// Out of memory.
     NoMemory,
 }
 
@@ -44,14 +45,6 @@ impl From<NoMemory> for OfferFault {
     ghost from_gives = { λ _ fault. fault ≡ offers.NoMemory };
 
     fn from(_: NoMemory) -> OfferFault {
-        OfferFault::NoMemory
-    }
-}
-
-impl From<vm_run::NoMemory> for OfferFault {
-    ghost from_gives = { λ _ fault. fault ≡ offers.NoMemory };
-
-    fn from(_: vm_run::NoMemory) -> OfferFault {
         OfferFault::NoMemory
     }
 }
@@ -69,7 +62,7 @@ pub enum StartFault {
     NotEmpty,
     /// I5: a root is not the hash of nothing.
     RootsNotEmpty,
-    /// Memory was wanted and not found.
+    /// Out of memory.
     NoMemory,
 }
 

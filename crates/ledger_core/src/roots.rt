@@ -1,5 +1,5 @@
 //! The roots that a block has to name.
-ghost use Rattle.std.specs.Prelude.{◌≡◌, ◌↔◌, ◌++◌, ℕ, List, Contains, map, IfOk, OnOk};
+ghost use Rattle.std.specs.Prelude.{◌≡◌, ◌↔◌, ◌++◌, ℕ, List, Contains, length, map, IfOk, OnOk};
 ghost use Rattle.data_model.specs.declared.tx.Tx.{Tx};
 ghost use Rattle.entry_ids.specs.Ids.{tx_id};
 ghost use Rattle.std.specs.List.{All};
@@ -83,12 +83,11 @@ pub(crate) fn add_ids(ids: &mut Vec<Id>, outputs: &[Unspent], spent: &[Id]) -> R
     Ok(())
 }
 
-// An id is 32 bytes: what compares it knows.
-fn is_id(id: &Id) -> bool
-    ensures { IsId id.now }
-{
-    *id == *id
-}
+// 32 bytes are an id. It does nothing when it runs.
+fn is_id(_bytes: &[u8])
+    requires { length _bytes.now ≡ 32 }
+    ensures { IsId _bytes.now }
+{}
 
 // Puts ids in order, each once.
 pub(crate) fn put_in_order(ids: &mut Vec<Id>)

@@ -1,9 +1,9 @@
 //! A ledger with a block more.
 ghost use Rattle.std.specs.Prelude.{◌≡◌, ◌≤◌, [], ◌∷◌, ◌++◌, OnOk, OnErr};
-ghost use Rattle.entry_ids.specs.Entry.{Hash, header_id};
-ghost use Rattle.vm_run.specs.Row.{Check};
+ghost use Rattle.entry_ids.specs.Entry.{header_id};
+ghost use Rattle.keyed.specs.Functions.{Hash, Check};
 ghost use Rattle.ledger_core.specs.Chain.{StandsFor};
-ghost use Rattle.ledger_core.specs.Held.{IsSpellable};
+ghost use Rattle.ledger_core.specs.LedgerModel.{IsSpellable};
 ghost use Rattle.ledger_core.specs.Offering.{AreChanges};
 ghost use Rattle.ledger_core.specs.Refusal.{ValidNext};
 ghost use Rattle.ledger_core.specs.Unspent.{live_at};
@@ -14,7 +14,7 @@ use data_model::Block;
 use wire::{Id, NoMemory};
 
 impl Ledger {
-    // Adds a block of this id, whose transactions change this. All memory is taken first: where it is wanted, nothing
+    // Adds a block of this id, whose transactions change this. All memory is taken first: where it runs out, nothing
     // has changed.
     pub(crate) fn settle(&mut self, block: Block, id: Id, changes: Changes) -> Result<(), NoMemory>
         requires within { IsSpellable block }

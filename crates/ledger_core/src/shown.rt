@@ -2,7 +2,7 @@
 ghost use Rattle.std.specs.Prelude.{◌≡◌, ◌↔◌, ℕ, List, IfSome, IsNone, IfOk, map, IsTrue, Contains};
 ghost use Rattle.merkle.specs.Roots.{IsIncreasing};
 ghost use Rattle.tx_check.specs.View.{HasId, Holds};
-ghost use Rattle.ledger_core.specs.Held.{shown};
+ghost use Rattle.ledger_core.specs.LedgerModel.{shown};
 ghost use Rattle.ledger_core.specs.Roots.{output_ids};
 ghost use Rattle.ledger_core.specs.Unspent.{left_of};
 
@@ -39,7 +39,7 @@ impl Ledger {
 }
 
 impl View for Ledger {
-    ghost use Rattle.ledger_core.specs.Held.{shown};
+    ghost use Rattle.ledger_core.specs.LedgerModel.{shown};
 
     ghost state_of = { shown };
 
@@ -68,7 +68,7 @@ pub(crate) struct Unfinished<'a> {
 }
 
 impl<'a> View for Unfinished<'a> {
-    ghost use Rattle.ledger_core.specs.Held.{shown_with};
+    ghost use Rattle.ledger_core.specs.LedgerModel.{shown_with};
 
     ghost state_of = { λ view. shown_with view.ledger.now view.changes.now.made.items view.changes.now.spent.items
         view.changes.now.used.items };

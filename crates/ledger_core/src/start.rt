@@ -1,10 +1,11 @@
+//! The block that starts a chain.
 ghost use Rattle.std.specs.Prelude.{◌≡◌, ◌≢◌, [], ◌∷◌, IfOk, IfErr, Option, Some, None};
 ghost use Rattle.data_model.specs.Spelling.{IsHeader};
 ghost use Rattle.entry_ids.specs.Entry.{header_id};
-ghost use Rattle.vm_run.specs.Row.{Check};
+ghost use Rattle.keyed.specs.Functions.{Check};
 ghost use Rattle.wire.specs.Tables.{First};
 ghost use Rattle.ledger_core.specs.Roots.{root_of_none};
-ghost use Rattle.ledger_core.specs.Start.{start_lines, StartRefusal, RefusesStart};
+ghost use Rattle.ledger_core.specs.Start.{start_causes, StartRefusal, RefusesStart};
 ghost use Rattle.ledger_core.specs.Chain.{StandsFor};
 
 use crate::{Ledger, StartFault};
@@ -62,7 +63,7 @@ fn initial_id<H: IdHash>(
 
 // The first of I1 to I5 that holds.
 fn fault_of(root: &Id, block: &Block) -> Option<StartFault>
-    ensures first { First (start_lines root.now block.now) result }
+    ensures first { First (start_causes root.now block.now) result }
     ensures refused { result ≢ Some StartFault.NoMemory }
 {
     let header = &block.header;

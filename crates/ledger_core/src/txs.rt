@@ -5,7 +5,7 @@ ghost use Rattle.wire.specs.Tables.{HoldsNot};
 ghost use Rattle.data_model.specs.Transaction.{IsTx};
 ghost use Rattle.ledger_core.specs.Chain.{StandsFor};
 ghost use Rattle.ledger_core.specs.Refusal.{HasRefusedTx};
-ghost use Rattle.ledger_core.specs.Offering.{AreAllIds, AreChanges, RefusesAs, TellsOf};
+ghost use Rattle.ledger_core.specs.Offering.{AreAllIds, AreChanges, RefusesAs, RefusedAt};
 
 use crate::shown::Unfinished;
 use crate::unfinished::Changes;
@@ -63,16 +63,16 @@ impl Ledger {
                 changes: &changes,
             };
             let checked = check_with_ids(alloc, &view, hash, sigs, time, tx, &ids[k]);
-            told_of(checked, k as u64)?;
+            refused_at(checked, k as u64)?;
             changes.add(alloc, tx, &ids[k])?;
         }
         Ok(changes)
     }
 }
 
-// What is told of the transaction at a place of a block.
-fn told_of(checked: Result<(), TxFault>, place: u64) -> Result<(), OfferFault>
-    ensures { TellsOf checked place result }
+// The refusal of a block for that of its transaction at a place.
+fn refused_at(checked: Result<(), TxFault>, place: u64) -> Result<(), OfferFault>
+    ensures { RefusedAt checked place result }
 {
     match checked {
         Ok(()) => Ok(()),

@@ -3,9 +3,10 @@ ghost use Rattle.std.specs.Prelude.{◌≡◌, ◌≤◌, ◌<◌, ◌^◌, ◌+
 ghost use Rattle.std.specs.List.{flat_map};
 ghost use Rattle.std.specs.Vec.{vec_len, vec_capacity};
 ghost use Rattle.data_model.specs.Transaction.{IsTx};
-ghost use Rattle.entry_ids.specs.Entry.{Hash};
+ghost use Rattle.keyed.specs.Functions.{Hash};
 ghost use Rattle.entry_ids.specs.Ids.{AreIds};
-ghost use Rattle.ledger_core.specs.Unspent.{made_by, made_body, spent_by, used_by, left_of, is_among};
+ghost use Rattle.ledger_core.specs.Unspent.{made_by, made_body, spent_by, used_by, left_of};
+ghost use Rattle.wire.specs.Strings.{is_among};
 ghost use Rattle.ledger_core.specs.Unspent.{output_named, nonce_named};
 
 use data_model::{Output, OutputBody, Tx};

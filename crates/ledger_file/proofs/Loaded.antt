@@ -8,11 +8,12 @@ use Rattle.wire.specs.Files.{FileFault}
 use Rattle.wire.specs.Spelling.{AreBytes}
 use Rattle.data_model.specs.declared.block.Block.{Block}
 use Rattle.data_model.specs.Files.{BlocksReadAs}
-use Rattle.vm_run.specs.Row.{Check}
-use Rattle.ledger_core.specs.Held.{Held}
+use Rattle.keyed.specs.Functions.{Check}
+use Rattle.ledger_core.specs.LedgerModel.{LedgerModel}
 use Rattle.ledger_core.specs.declared.refusal.BlockRefusal.{BlockRefusal}
 use Rattle.ledger_core.specs.Chain.{Chain}
-use Rattle.ledger_core.specs.Refusal.{Hash, Refusal}
+use Rattle.ledger_core.specs.Refusal.{Refusal}
+use Rattle.keyed.specs.Functions.{Hash}
 use Rattle.ledger_core.specs.Start.{RefusesStart}
 use Rattle.ledger_core.specs.declared.refusal.StartFault.{StartFault}
 use Rattle.ledger_core.specs.declared.refusal.StartFault.TheVariants as starts
@@ -28,12 +29,12 @@ pub reads-as : (bytes : List ℕ) (found blocks : List Block) → AreFramed foun
 reads-as bytes found blocks reads same = subst (λ (bs : List Block). AreFramed bs × (bytes ≡ file_spelling bs)) (sym same) reads
 
 module _ (hash : Hash) (check : Check) (bytes : List ℕ) where
-  loads_passed : (e : LoadFault) (r : Result Held LoadFault) → IsErrAnd r (λ y. y ≡ e) → Loads hash check bytes (Err e) → Loads hash check bytes r
+  loads_passed : (e : LoadFault) (r : Result LedgerModel LoadFault) → IsErrAnd r (λ y. y ≡ e) → Loads hash check bytes (Err e) → Loads hash check bytes r
   loads_passed e (Ok x) is loads = absurd is
   loads_passed e (Err y) is loads = subst (λ (z : LoadFault). Loads hash check bytes (Err z)) (sym is) loads
 
   -- they do not read
-  pub loads-unread : (fault : FramesFault) (r : Result Held LoadFault) → IsErrAnd r (λ y. y ≡ of_frames fault) → ((f : FileFault) → fault ≡ frames.At f.index f.at f.kind → BlocksReadAs bytes (Err f)) → Loads hash check bytes r
+  pub loads-unread : (fault : FramesFault) (r : Result LedgerModel LoadFault) → IsErrAnd r (λ y. y ≡ of_frames fault) → ((f : FileFault) → fault ≡ frames.At f.index f.at f.kind → BlocksReadAs bytes (Err f)) → Loads hash check bytes r
   loads-unread (frames.At index at kind) r is first =
       loads_passed (faults.Frame index at kind) r is (no_frames (first (record { index = index; at = at; kind = kind }) refl))
   loads-unread frames.NoMemory r is first = loads_passed faults.NoMemory r is tt
@@ -51,7 +52,7 @@ module _ (hash : Hash) (check : Check) (bytes : List ℕ) where
   not_started initial later starts.RootsNotEmpty reads is = no_start initial later reads is
   not_started initial later starts.NoMemory reads is = tt
 
-  pub loads-not-started : (initial : Block) (later : List Block) (fault : StartFault) (r : Result Held LoadFault) → IsErrAnd r (λ y. y ≡ of_start fault) → BlocksReadAs bytes (Ok (initial ∷ later)) → RefusesStart hash initial fault → Loads hash check bytes r
+  pub loads-not-started : (initial : Block) (later : List Block) (fault : StartFault) (r : Result LedgerModel LoadFault) → IsErrAnd r (λ y. y ≡ of_start fault) → BlocksReadAs bytes (Ok (initial ∷ later)) → RefusesStart hash initial fault → Loads hash check bytes r
   loads-not-started initial later fault r is reads why = loads_passed (of_start fault) r is (not_started initial later fault reads why)
 
   -- a later one does not extend those before it
@@ -60,7 +61,7 @@ module _ (hash : Hash) (check : Check) (bytes : List ℕ) where
       subst (λ (n : ℕ). LoadsAs hash check bytes (Err (faults.Block n why))) (sym at) (no_next before block later (subst (λ (bs : List Block). BlocksReadAs bytes (Ok bs)) is reads) front first)
 
   -- what is answered is what there is, since there are no two
-  pub gives-loaded : LoadLaws hash check → AreBytes bytes → (r : Result Held LoadFault) (answer : Result (List Block) LoadFault) → Loads hash check bytes r → LoadsAs hash check bytes answer → LoadGives r answer
+  pub gives-loaded : LoadLaws hash check → AreBytes bytes → (r : Result LedgerModel LoadFault) (answer : Result (List Block) LoadFault) → Loads hash check bytes r → LoadsAs hash check bytes answer → LoadGives r answer
   gives-loaded laws are (Ok ledger) answer loads is = laws.one bytes answer (Ok ledger.blocks) are is loads
   gives-loaded laws are (Err (faults.Frame index at what)) answer loads is = laws.one bytes answer _ are is loads
   gives-loaded laws are (Err (faults.Start why)) answer loads is = laws.one bytes answer _ are is loads

@@ -5,10 +5,11 @@ use Rattle.wire.specs.Files.{FileFault}
 use Rattle.wire.specs.Spelling.{AreBytes}
 use Rattle.data_model.specs.declared.block.Block.{Block}
 use Rattle.data_model.specs.Files.{BlocksReadAs, BlockFileLaws}
-use Rattle.vm_run.specs.Row.{Check}
+use Rattle.keyed.specs.Functions.{Check}
 use Rattle.ledger_core.specs.declared.refusal.BlockRefusal.{BlockRefusal}
 use Rattle.ledger_core.specs.declared.refusal.StartFault.{StartFault}
-use Rattle.ledger_core.specs.Refusal.{Hash, Refusal, ValidNext}
+use Rattle.ledger_core.specs.Refusal.{Refusal, ValidNext}
+use Rattle.keyed.specs.Functions.{Hash}
 use Rattle.ledger_core.specs.Start.{StartRefusal}
 use Rattle.ledger_core.specs.Chain.{GoesOn, Chain}
 use Rattle.ledger_core.specs.Laws.{TableLaws, RefusalLaws, ChainLaws}
@@ -47,7 +48,7 @@ module _ (hash : Hash) (check : Check) (tables : TableLaws hash check) (refusals
   extends_or_not bs b c m same valid why =
       line_twice m (one_refusal bs c (Some m) None why (subst (λ (x : Block). ValidNext hash check bs x) same valid))
 
-  -- what is refused behind a front, and what goes on behind the front with one block more
+  -- what is refused after a front, and what goes on after the front with one block more
   abbrev RefusedBehind : List Block → List Block → Block → BlockRefusal → Type 0
   RefusedBehind front xs b m = Refusal hash check (front ++ xs) b (Some m)
 

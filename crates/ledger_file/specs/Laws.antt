@@ -3,10 +3,10 @@ use Rattle.std.specs.Prelude.{◌≡◌, ℕ, ◌+◌, ◌≤◌, List, length, 
 use Rattle.wire.specs.Spelling.{AreBytes}
 use Rattle.data_model.specs.declared.block.Block.{Block}
 use Rattle.data_model.specs.Files.{BlocksReadAs}
-use Rattle.vm_run.specs.Row.{Check}
+use Rattle.keyed.specs.Functions.{Check}
 use Rattle.ledger_core.specs.Blocks.{txs_of}
 use Rattle.ledger_core.specs.Conservation.{held_units, issued, retired}
-use Rattle.ledger_core.specs.Refusal.{Hash}
+use Rattle.keyed.specs.Functions.{Hash}
 use Rattle.ledger_core.specs.Unspent.{unspent_after}
 use Rattle.ledger_file.specs.Loading.{LoadsAs}
 use Rattle.ledger_file.specs.declared.fault.LoadFault.{LoadFault}

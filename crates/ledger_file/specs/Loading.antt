@@ -4,10 +4,11 @@ use Rattle.wire.specs.declared.fault.DataKind.TheVariants.{Count}
 use Rattle.wire.specs.Files.{FileFault}
 use Rattle.data_model.specs.declared.block.Block.{Block}
 use Rattle.data_model.specs.Files.{BlocksReadAs}
-use Rattle.vm_run.specs.Row.{Check}
+use Rattle.keyed.specs.Functions.{Check}
 use Rattle.ledger_core.specs.declared.refusal.BlockRefusal.{BlockRefusal}
 use Rattle.ledger_core.specs.declared.refusal.StartFault.{StartFault}
-use Rattle.ledger_core.specs.Refusal.{Hash, Refusal}
+use Rattle.ledger_core.specs.Refusal.{Refusal}
+use Rattle.keyed.specs.Functions.{Hash}
 use Rattle.ledger_core.specs.Start.{StartRefusal}
 use Rattle.ledger_core.specs.Chain.{Chain}
 use Rattle.ledger_file.specs.declared.fault.LoadFault.{LoadFault}

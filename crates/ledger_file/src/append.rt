@@ -1,3 +1,4 @@
+//! Blocks and frames added at the end of a ledger's file.
 ghost use Rattle.std.specs.Prelude.{◌≡◌};
 ghost use Rattle.data_model.specs.Files.{block_frame};
 ghost use Rattle.data_model.specs.Spelling.{IsBlock};
@@ -41,8 +42,6 @@ pub fn append_block<F: Files>(
     ensures count { Counts (F.write_faults files.old) (F.write_faults files.new) result }
     ensures read_count { F.read_faults files.new ≡ F.read_faults files.old }
 {
-    match frame(alloc, block) {
-        Ok(frame) => files.append(name, frame.as_slice()),
-        Err(NoMemory) => Err(FileFault::NoMemory),
-    }
+    let frame = frame(alloc, block)?;
+    files.append(name, frame.as_slice())
 }

@@ -1,3 +1,4 @@
+//! Why a file is no ledger's.
 use data_model::{DataKind, FramesFault};
 use ledger_core::{BlockRefusal, StartFault};
 
@@ -13,7 +14,7 @@ pub enum LoadFault {
     /// This later block, counted from 0, is the first that does not extend those before it, for the first reason that
     /// holds.
     Block { index: u64, refusal: BlockRefusal },
-    /// Memory was wanted and not found.
+    /// Out of memory.
     NoMemory,
 }
 

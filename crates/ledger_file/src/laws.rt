@@ -1,17 +1,16 @@
 //! Laws of the definitions, each the contract of a function with nothing to do.
-ghost use Rattle.vm_run.specs.Row.{Check};
-ghost use Rattle.ledger_core.specs.Roots.{Hash};
+ghost use Rattle.keyed.specs.Functions.{Check, Hash};
 ghost use Rattle.ledger_file.specs.Laws.{FewBlocks, KeepsUnits, LoadLaws};
 
 use data_model::block_files;
-use ledger_core::{conserved_units, growing_chains, one_line, one_refusal};
+use ledger_core::{conserved_units, growing_chains, one_refusal, one_refusal_of_blocks};
 
 /// Bytes are the file of one ledger, or have one first fault.
 pub fn one_load()
     ensures { (hash : Hash) (check : Check) → LoadLaws hash check }
 {
     block_files();
-    one_line();
+    one_refusal_of_blocks();
     one_refusal();
     growing_chains();
 }

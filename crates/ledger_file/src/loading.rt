@@ -1,3 +1,4 @@
+//! The ledger that a file holds, block by block.
 ghost use Rattle.std.specs.Prelude.{◌+◌, ◌<◌, ◌^◌, ◌++◌, ℕ, List, length, Result, Ok, IfOk};
 ghost use Rattle.std.specs.Vec.Iter.{into_iter_items};
 ghost use Rattle.data_model.specs.declared.block.Block.{Block};

@@ -1,3 +1,4 @@
+//! The frames of a file, split by their lengths.
 ghost use Rattle.std.specs.Prelude.{◌≡◌, ◌≤◌, ◌++◌, ℕ, List, [], length};
 ghost use Rattle.data_model.specs.declared.block.Block.{Block};
 ghost use Rattle.data_model.specs.Files.{IsFramed, block_frame, longest_frame};

@@ -5,7 +5,8 @@ use Rattle.std.proofs.Math.Nat.{pow-suc}
 use Rattle.std.proofs.lemmas.Bool.{le-leb, lt-leb}
 use Rattle.std.proofs.lemmas.List.{take_at, drop_at, take-append-drop, length-append, length-take-le, length-drop}
 use Rattle.std.specs.Int.{IsPowerOfTwo}
-use Rattle.merkle.specs.Roots.{Hash, leaf, node, root_within, list_root}
+use Rattle.merkle.specs.Roots.{leaf, node, root_within, list_root}
+use Rattle.keyed.specs.Functions.{Hash}
 use Rattle.merkle.specs.Laws.{ListRoots}
 
 below_power : (n : ℕ) → n ≤ 2 ^ n

@@ -5,7 +5,8 @@ use Rattle.std.specs.List.{All, filter}
 use Rattle.std.proofs.lemmas.Bool.{cases_lt}
 use Rattle.std.proofs.lemmas.List.Elements.{All-contains, All-get_or}
 use Rattle.merkle.specs.Agreeing.{AllSameUpTo}
-use Rattle.merkle.specs.Roots.{Hash, leaf, node, has_bit, without, with, of_parts, root_of_bits, set_root}
+use Rattle.merkle.specs.Roots.{leaf, node, has_bit, without, with, of_parts, root_of_bits, set_root}
+use Rattle.keyed.specs.Functions.{Hash}
 use Rattle.merkle.specs.Laws.{AgreeBefore, IsId, HaveSameMembers, SetRoots}
 use Rattle.merkle.proofs.Bits.{same_at_start, one_id}
 use Rattle.merkle.proofs.Members.{in_head, in_tail, in_nothing, in_all, passes, keeps}

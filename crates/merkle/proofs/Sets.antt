@@ -9,7 +9,8 @@ use Rattle.std.proofs.lemmas.Bool.{cases_lt}
 use Rattle.std.proofs.lemmas.Map.Keys.{sorted_head, sorted_tail}
 use Rattle.std.proofs.lemmas.List.Elements.{All-contains}
 use Rattle.merkle.specs.Agreeing.{AreSameUpTo, AllSameUpTo}
-use Rattle.merkle.specs.Roots.{Hash, leaf, node, has_bit, without, with, of_parts, root_of_bits, IsIncreasing}
+use Rattle.merkle.specs.Roots.{leaf, node, has_bit, without, with, of_parts, root_of_bits, IsIncreasing}
+use Rattle.keyed.specs.Functions.{Hash}
 use Rattle.merkle.proofs.Bits.{IsRead, bit_order, same_more, one_id, not_before_itself}
 use Rattle.merkle.proofs.Members.{in_head, in_tail, in_all, passes, zipped}
 
@@ -26,7 +27,7 @@ all_read q ids long bytes id c = record {
 -- ---- those without a bit stand before those with it
 
 module _ (place : ℕ) where
-  -- behind one with the bit each has it
+  -- after one with the bit each has it
   abbrev Rising : List (List ℕ) → Type 0
   Rising [] = Unit {0}
   Rising (x ∷ xs) = AllByRecursion (λ y. has_bit place x ≡ true → has_bit place y ≡ true) xs × Rising xs

@@ -6,7 +6,8 @@ use Rattle.std.specs.Cmp.Lexicographic.{slice_cmp}
 use Rattle.std.proofs.lemmas.List.{length-drop, take_all}
 use Rattle.std.proofs.lemmas.List.Kept.{IsStrictlySortedBy-filter}
 use Rattle.merkle.specs.Agreeing.{AllSameUpTo}
-use Rattle.merkle.specs.Roots.{Hash, node, has_bit, without, with, root_of_bits, IsIncreasing}
+use Rattle.merkle.specs.Roots.{node, has_bit, without, with, root_of_bits, IsIncreasing}
+use Rattle.keyed.specs.Functions.{Hash}
 use Rattle.merkle.proofs.Sets.{AllRead, parts, same_without, same_with, at_bit, left_alone, right_alone, both_parts}
 
 nothing : (ids : List (List ℕ)) → length ids ≡ 0 → ids ≡ []

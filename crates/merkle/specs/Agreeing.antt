@@ -1,4 +1,5 @@
--- Ids that are the same up to a bit, which the search for the first bit in which they differ goes by.
+-- Ids that are the same up to a bit, which the search for the first bit in which they differ goes by. Only contracts
+-- of private functions name it.
 use Rattle.std.specs.Prelude.{◌≡◌, ℕ, ◌-◌, ◌/◌, ◌%◌, ◌^◌, List, take, slice_index, Contains}
 
 -- the bits of its byte before a place, as a number; of a byte, `% 256` is the byte

@@ -1,7 +1,8 @@
 -- What roots are, part by part, and that the root of a set is one of its members alone.
 use Rattle.std.specs.Prelude.{◌≡◌, ◌↔◌, ℕ, ◌<◌, ◌≤◌, ◌^◌, List, [], ◌∷◌, ◌++◌, length, Contains}
 use Rattle.std.specs.List.{All}
-use Rattle.merkle.specs.Roots.{Hash, leaf, node, list_root, has_bit, without, with, set_root}
+use Rattle.merkle.specs.Roots.{leaf, node, list_root, has_bit, without, with, set_root}
+use Rattle.keyed.specs.Functions.{Hash}
 
 -- of lists
 pub record ListRoots (hash : Hash) : Type 0 where

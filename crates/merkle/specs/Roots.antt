@@ -5,16 +5,13 @@ use Rattle.std.specs.List.{filter}
 use Rattle.std.specs.List.Sorted.{IsStrictlySortedBy}
 use Rattle.std.specs.Ordering.{nat_cmp}
 use Rattle.std.specs.Cmp.Lexicographic.{slice_cmp}
+use Rattle.keyed.specs.Functions.{Hash}
 
--- a hash, as a function of bytes
-abbrev pub Hash : Type 0
-Hash = List ℕ → List ℕ
-
--- the root of one id: its hash behind the byte 00
+-- the root of one id: its hash after the byte 00
 abbrev pub leaf : Hash → List ℕ → List ℕ
 leaf hash id = hash (0 ∷ id)
 
--- the root of two parts: the hash of their roots behind the byte 01
+-- the root of two parts: the hash of their roots after the byte 01
 abbrev pub node : Hash → (left right : List ℕ) → List ℕ
 node hash left right = hash (1 ∷ (left ++ right))
 

@@ -1,5 +1,5 @@
 //! Laws of roots, each the contract of a function with nothing to do.
-ghost use Rattle.merkle.specs.Roots.{Hash};
+ghost use Rattle.keyed.specs.Functions.{Hash};
 ghost use Rattle.merkle.specs.Laws.{ListRoots, SetRoots};
 
 /// What the root of a list of ids is, by how many they are.

@@ -1,3 +1,4 @@
+//! The root of a list of ids.
 ghost use Rattle.std.specs.Prelude.{◌≡◌};
 ghost use Rattle.merkle.specs.Roots.{list_root};
 

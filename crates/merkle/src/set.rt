@@ -1,3 +1,4 @@
+//! The root of a set of ids.
 ghost use Rattle.std.specs.Prelude.{◌≡◌, ◌<◌, ◌≤◌, ◌+◌, ◌-◌, ◌/◌, length, slice_index};
 ghost use Rattle.std.specs.List.{All};
 ghost use Rattle.merkle.specs.Agreeing.{AllSameUpTo};

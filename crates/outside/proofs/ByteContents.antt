@@ -6,7 +6,7 @@ use Rattle.std.specs.FinMap as finite
 use Rattle.std.specs.Str.{bytes_eq}
 use Rattle.outside.specs.declared.fault.FileFault.{FileFault}
 use Rattle.outside.specs.declared.fault.FileFault.TheVariants.{Failed, NoMemory}
-use Rattle.outside.specs.Bytes.{AreBytes, as_bytes, content_as_bytes, held_as_bytes}
+use Rattle.outside.specs.Bytes.{AreBytes, as_bytes, content_as_bytes, content_under}
 use Rattle.outside.specs.Files.{Content, WriteKind, Append, Replace, bytes_in, ReadsAfter, Wrote}
 use Rattle.outside.specs.MemFiles.{Contents}
 
@@ -65,7 +65,7 @@ at_name true kind done bytes old new same is = after kind done bytes old new sam
 at_name false kind done bytes old new same is = ap content_as_bytes is
 
 -- what a write does to the contents, it does to them as bytes
-pub Wrote-as_bytes : {T : Type 0} (kind : WriteKind) (name bytes : List ℕ) (result : Result T FileFault) (old new : Contents) → AreBytes bytes → Wrote kind name bytes result (Some (finite.get old)) (Some (finite.get new)) → Wrote kind name bytes result (Some (held_as_bytes old)) (Some (held_as_bytes new))
+pub Wrote-as_bytes : {T : Type 0} (kind : WriteKind) (name bytes : List ℕ) (result : Result T FileFault) (old new : Contents) → AreBytes bytes → Wrote kind name bytes result (Some (finite.get old)) (Some (finite.get new)) → Wrote kind name bytes result (Some (content_under old)) (Some (content_under new))
 Wrote-as_bytes kind name bytes (Ok x) old new are is =
     λ q. at_name (bytes_eq q name) kind true bytes (finite.get old q) (finite.get new q) (as_bytes-same bytes are) (is q)
 Wrote-as_bytes kind name bytes (Err Failed) old new are is =

@@ -23,8 +23,8 @@ abbrev pub content_as_bytes : Content → Content
 content_as_bytes content = option_map as_bytes content
 
 -- What files in memory hold under a name. Their lists are lists of bytes, and are taken as such.
-abbrev pub held_as_bytes : Contents → List ℕ → Content
-held_as_bytes files name = content_as_bytes (finite.get files name)
+abbrev pub content_under : Contents → List ℕ → Content
+content_under files name = content_as_bytes (finite.get files name)
 
 -- ---- what is held so is bytes
 
@@ -40,12 +40,12 @@ pub content_as_bytes-bytes : (content : Content) → HoldsBytes (content_as_byte
 content_as_bytes-bytes None = tt
 content_as_bytes-bytes (Some numbers) = as_bytes-bytes numbers
 
-pub held-bytes :
+pub content_under-bytes :
     (files : Contents) (of : List ℕ → Content) (name : List ℕ)
-    → ◌≡◌ {A = Option (List ℕ → Content)} (Some (held_as_bytes files)) (Some of)
+    → ◌≡◌ {A = Option (List ℕ → Content)} (Some (content_under files)) (Some of)
     → HoldsBytes (of name)
-held-bytes files of name told =
-    let same : held_as_bytes files ≡ of = cc in
+content_under-bytes files of name told =
+    let same : content_under files ≡ of = cc in
     subst (λ (f : List ℕ → Content). HoldsBytes (f name)) same (content_as_bytes-bytes (finite.get files name))
 
 -- files that tell nothing

@@ -4,7 +4,7 @@ use Rattle.std.specs.Option.{option_map}
 use Rattle.outside.specs.declared.fault.FileFault.{FileFault}
 use Rattle.outside.specs.declared.fault.FileFault.TheVariants.{Failed, NoMemory}
 use Rattle.outside.specs.Fault.{Rose}
-use Rattle.outside.specs.Sink.{holding, HoldsPart}
+use Rattle.outside.specs.Sink.{output_with, OutputsPart}
 use Rattle.outside.specs.Files.{WriteKind, AllRead, write_of}
 use Rattle.outside.specs.World.{World, Io}
 
@@ -32,7 +32,7 @@ WasDone (Write kind name bytes) old new =
     AllRead (write_of kind name bytes true) old.contents new.contents
     × (new
     ≡ record old { contents = new.contents; writes = joined old.writes (write_of kind name bytes true ∷ []) })
-WasDone (Print bytes) old new = new ≡ record old { held = holding old.held bytes }
+WasDone (Print bytes) old new = new ≡ record old { output = output_with old.output bytes }
 
 -- The step was begun and failed, perhaps after a part of it. The count of its faults rose, and what is not named here
 -- is as it was.
@@ -55,11 +55,11 @@ HasFailed (Write kind name bytes) old new =
     })
 HasFailed (Print bytes) old new =
     Rose old.sink_faults new.sink_faults
-    × HoldsPart old.held bytes new.held
-    × (new ≡ record old { held = new.held; sink_faults = new.sink_faults })
+    × OutputsPart old.output bytes new.output
+    × (new ≡ record old { output = new.output; sink_faults = new.sink_faults })
 
--- What became of a step: done, or begun and failed, or not begun for want of memory.
+-- What became of a step: done, or begun and failed, or not begun for out of memory.
 abbrev pub Began : {T : Type 0} → Step → Io → Io → Result T FileFault → Type 0
-Began s before after (Ok _) = WasDone s before.world after.world × (after.place ≡ before.place)
-Began s before after (Err Failed) = HasFailed s before.world after.world × (after.place ≡ before.place)
+Began s before after (Ok _) = WasDone s before.world after.world × (after.refs ≡ before.refs)
+Began s before after (Err Failed) = HasFailed s before.world after.world × (after.refs ≡ before.refs)
 Began s before after (Err NoMemory) = after ≡ before

@@ -1,4 +1,5 @@
--- What a loop over a writer leaves, where the writer tells what it holds.
+-- What a loop over a writer leaves, where the writer tells what it holds. Only contracts of private functions name
+-- it.
 use Rattle.std.specs.Prelude.{ℕ, List, take, Option, Result, MatchResult}
 use Rattle.std.specs.Io.KnownBytes.{Appends}
 

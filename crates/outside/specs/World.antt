@@ -4,7 +4,7 @@ use Rattle.outside.specs.Files.{Content, Read, Write}
 
 -- what the sink holds, what the files contain, which calls on them were begun, and how often each kind of call failed
 pub record World : Type 0 where
-  pub held : Option (List ℕ)
+  pub output : Option (List ℕ)
   pub sink_faults : ℕ
   pub contents : Option (List ℕ → Content)
   pub reads : Option (List Read)
@@ -12,10 +12,10 @@ pub record World : Type 0 where
   pub read_faults : ℕ
   pub write_faults : ℕ
 
--- that, and the references behind which the files and the sink stand
+-- that, and the references through which the files and the sink are held
 pub record Io : Type 0 where
   pub world : World
-  pub place : ℕ × ℕ
+  pub refs : ℕ × ℕ
 
 -- the world of a sink and of files, from what each of the two tells
 abbrev pub world_at :
@@ -30,8 +30,8 @@ abbrev pub world_at :
     → S
     → F
     → World
-world_at held faults contents reads writes read_faults write_faults out files = record {
-  held = held out;
+world_at output faults contents reads writes read_faults write_faults out files = record {
+  output = output out;
   sink_faults = faults out;
   contents = contents files;
   reads = reads files;

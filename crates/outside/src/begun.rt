@@ -1,4 +1,4 @@
-// What files in memory keep of the calls begun.
+//! What files in memory keep of the calls begun.
 ghost use Rattle.std.specs.Prelude.{◌≡◌, IfOk};
 ghost use Rattle.outside.specs.Files.{write_of};
 ghost use Rattle.outside.specs.Begun.{read_of, begun_write, write_kind};

@@ -1,3 +1,4 @@
+//! Files and a sink as one outside world.
 use crate::{FileFault, Files, Outside, Sink};
 use std::alloc::Global;
 
@@ -14,8 +15,8 @@ impl<F: Files, S: Sink> Outside for Both<'_, F, S> {
 
     ghost io = { λ both. record {
       world = world_at
-          S.held S.faults F.contents F.reads F.writes F.read_faults F.write_faults both.out.now both.files.now;
-      place = (both.files.ghost_name, both.out.ghost_name);
+          S.output S.faults F.contents F.reads F.writes F.read_faults F.write_faults both.out.now both.files.now;
+      refs = (both.files.ghost_name, both.out.ghost_name);
     } };
 
     fn read(&mut self, alloc: Global, name: &str, most: u64) -> Result<Vec<u8>, FileFault> {

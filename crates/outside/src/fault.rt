@@ -1,5 +1,6 @@
+//! Why a call on files failed.
 use crate::NoMemory;
-use std::alloc::{AllocError, AllocFailed};
+use std::alloc::AllocFailed;
 use std::io;
 
 /// Why a call on the outside world was not done.
@@ -7,7 +8,7 @@ use std::io;
 pub enum FileFault {
     /// The outside world failed, and counted it.
     Failed,
-    /// Memory was wanted and not found; nothing was done.
+    /// Out of memory; nothing was done.
     NoMemory,
 }
 
@@ -18,17 +19,6 @@ impl From<NoMemory> for FileFault {
     ghost from_gives = { λ _ e. e ≡ fault.NoMemory };
 
     fn from(_: NoMemory) -> FileFault {
-        FileFault::NoMemory
-    }
-}
-
-impl From<AllocError> for FileFault {
-    ghost use Rattle.std.specs.Prelude.{◌≡◌};
-    ghost use Rattle.outside.specs.declared.fault.FileFault.TheVariants as fault;
-
-    ghost from_gives = { λ _ e. e ≡ fault.NoMemory };
-
-    fn from(_: AllocError) -> FileFault {
         FileFault::NoMemory
     }
 }

@@ -1,3 +1,4 @@
+//! Files by name, as a trait.
 ghost use Rattle.std.specs.Prelude.{◌≡◌, ◌<◌, ◌≤◌, ◌+◌, ◌^◌, ℕ, List, Option, Some, length, IfOk};
 ghost use Rattle.outside.specs.Bytes.{HoldsBytes};
 ghost use Rattle.outside.specs.Fault.{Counts};

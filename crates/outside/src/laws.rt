@@ -1,4 +1,4 @@
-// Laws of what a crash may leave: each is the contract of a function that does nothing.
+//! Laws of what a crash may leave: each is the contract of a function that does nothing.
 ghost use Rattle.outside.specs.CrashLaws.{RunsJoin, MomentsJoin, DoneIsKept, OthersStay, StartsKept};
 
 /// Writes lead on as their two parts do, one after the other, so a run may be taken apart at any place.

@@ -1,3 +1,4 @@
+//! Files in memory, which keep what was asked of them and fail on demand.
 ghost use Rattle.std.specs.Prelude.{Some, ◌≡◌, ◌⊎◌, ◌<◌, ◌≤◌, ◌+◌, ◌^◌, ◌↔◌, [], take, Contains, IsTrue, OnOk, OnErr};
 ghost use Rattle.std.specs.Prelude.{IfOk, IsSomeAnd, IsNone, IsErrOf, map};
 ghost use Rattle.std.specs.FinMap as finite;
@@ -7,11 +8,11 @@ ghost use Rattle.outside.specs.Files.{Append, Replace, Wrote};
 ghost use Rattle.outside.specs.MemCalls.{with_call, with_file, with_read, with_failed_read, with_write};
 ghost use Rattle.outside.specs.MemCalls.{with_failed_write, with_keep};
 ghost use Rattle.outside.specs.Begun.{begun_write, read_of, write_kind};
-ghost use Rattle.outside.specs.Bytes.{held_as_bytes};
+ghost use Rattle.outside.specs.Bytes.{content_under};
 
 use crate::begun::{BegunKind, BegunRead, BegunWrite};
 use crate::contents::{add_part, content, front, set_content, torn, written};
-use crate::plan::is_to_fail;
+use crate::failing::is_to_fail;
 use crate::{FileFault, Files, NoMemory};
 use std::alloc::Global;
 use std::collections::BTreeMap;
@@ -190,8 +191,8 @@ impl MemFiles {
         ensures failed { IsErrOf result FileFault.Failed
             → self.new ≡ with_failed_write (write_kind kind) name.now bytes.now (with_call self.old) }
         ensures memory { IsErrOf result FileFault.NoMemory → self.new ≡ with_call self.old }
-        ensures contents { Wrote (write_kind kind) name.now bytes.now result (Some (held_as_bytes self.old.files))
-            (Some (held_as_bytes self.new.files)) }
+        ensures contents { Wrote (write_kind kind) name.now bytes.now result (Some (content_under self.old.files))
+            (Some (content_under self.new.files)) }
         ensures count { Counts self.old.write_faults self.new.write_faults result }
     {
         if self.begin_call() {
@@ -207,7 +208,7 @@ impl MemFiles {
         requires { most < 2 ^ 63 }
         ensures missing { IsErrOf result FileFault.Failed → IsNone (finite.get self.old.files name.now) }
         ensures bytes { IfOk result
-            (λ v. IsSomeAnd (held_as_bytes self.old.files name.now) (λ whole. v.items ≡ take (most + 1) whole)) }
+            (λ v. IsSomeAnd (content_under self.old.files name.now) (λ whole. v.items ≡ take (most + 1) whole)) }
         ensures ok { OnOk result (self.new ≡ with_read name.now most self.old) }
         ensures failed { IsErrOf result FileFault.Failed → self.new ≡ with_failed_read name.now most self.old }
         ensures memory { IsErrOf result FileFault.NoMemory → self.new ≡ self.old }
@@ -230,9 +231,9 @@ impl MemFiles {
 impl Files for MemFiles {
     ghost use Rattle.std.specs.Prelude.{Some};
     ghost use Rattle.std.specs.FinMap as finite;
-    ghost use Rattle.outside.specs.Bytes.{held_as_bytes, held-bytes};
+    ghost use Rattle.outside.specs.Bytes.{content_under, content_under-bytes};
 
-    ghost contents = { λ s. Some (held_as_bytes s.files) };
+    ghost contents = { λ s. Some (content_under s.files) };
 
     ghost reads = { λ s. Some s.reads };
 
@@ -242,7 +243,7 @@ impl Files for MemFiles {
 
     ghost write_faults = { λ s. s.write_faults };
 
-    ghost contents_are_bytes = { λ s of name told. held-bytes s.files of name told };
+    ghost contents_are_bytes = { λ s of name told. content_under-bytes s.files of name told };
 
     fn read(&mut self, alloc: Global, name: &str, most: u64) -> Result<Vec<u8>, FileFault>
         requires { most < 2 ^ 63 }
@@ -250,7 +251,7 @@ impl Files for MemFiles {
             → Contains self.old.fails self.old.calls ⊎ IsNone (finite.get self.old.files name.now) }
         ensures unplanned { OnOk result (¬ Contains self.old.fails self.old.calls) }
         ensures bytes { IfOk result
-            (λ v. IsSomeAnd (held_as_bytes self.old.files name.now) (λ whole. v.items ≡ take (most + 1) whole)) }
+            (λ v. IsSomeAnd (content_under self.old.files name.now) (λ whole. v.items ≡ take (most + 1) whole)) }
         ensures ok { OnOk result (self.new ≡ with_read name.now most (with_call self.old)) }
         ensures failed { IsErrOf result FileFault.Failed
             → self.new ≡ with_failed_read name.now most (with_call self.old) }
@@ -271,8 +272,8 @@ impl Files for MemFiles {
         ensures failed { IsErrOf result FileFault.Failed
             → self.new ≡ with_failed_write Append name.now bytes.now (with_call self.old) }
         ensures memory { IsErrOf result FileFault.NoMemory → self.new ≡ with_call self.old }
-        ensures contents { Wrote Append name.now bytes.now result (Some (held_as_bytes self.old.files))
-            (Some (held_as_bytes self.new.files)) }
+        ensures contents { Wrote Append name.now bytes.now result (Some (content_under self.old.files))
+            (Some (content_under self.new.files)) }
         ensures count { Counts self.old.write_faults self.new.write_faults result }
     {
         self.write(BegunKind::Appended, name, bytes)
@@ -285,8 +286,8 @@ impl Files for MemFiles {
         ensures failed { IsErrOf result FileFault.Failed
             → self.new ≡ with_failed_write Replace name.now bytes.now (with_call self.old) }
         ensures memory { IsErrOf result FileFault.NoMemory → self.new ≡ with_call self.old }
-        ensures contents { Wrote Replace name.now bytes.now result (Some (held_as_bytes self.old.files))
-            (Some (held_as_bytes self.new.files)) }
+        ensures contents { Wrote Replace name.now bytes.now result (Some (content_under self.old.files))
+            (Some (content_under self.new.files)) }
         ensures count { Counts self.old.write_faults self.new.write_faults result }
     {
         self.write(BegunKind::Replaced, name, bytes)

@@ -1,8 +1,9 @@
+//! A sink in memory, which keeps what was printed and fails on demand.
 ghost use Rattle.std.specs.Prelude.{◌≡◌, ◌<◌, ◌↔◌, ◌++◌, [], length, Contains, OnOk, OnErr, IsErrOf};
 ghost use Rattle.outside.specs.Count.{counted};
 ghost use Rattle.outside.specs.Fault.{Counts};
 
-use crate::plan::is_to_fail;
+use crate::failing::is_to_fail;
 use crate::{FileFault, Sink};
 use std::alloc::Global;
 use std::marker::Model;
@@ -60,7 +61,7 @@ impl MemSink {
 impl Sink for MemSink {
     ghost use Rattle.std.specs.Prelude.{Some};
 
-    ghost held = { λ s. Some s.content };
+    ghost output = { λ s. Some s.content };
 
     ghost faults = { λ s. s.faults };
 

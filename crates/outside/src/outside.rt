@@ -1,3 +1,4 @@
+//! Files and printed bytes together, as one trait.
 ghost use Rattle.std.specs.Prelude.{◌≡◌, ◌<◌, ◌≤◌, ◌+◌, ◌^◌, ℕ, List, [], Option, Some, length, IfOk, IsOk};
 ghost use Rattle.outside.specs.Bytes.{HoldsBytes};
 ghost use Rattle.outside.specs.Files.{Content, Append, Replace, ReadGives};
@@ -14,7 +15,7 @@ use std::alloc::Global;
 /// `Failed` comes only where the count of the step's own faults rose (reads have one, appends and replaces another,
 /// prints a third), and the step may have been done in part. After `NoMemory` nothing was begun, and all is as before.
 pub trait Outside {
-    /// What files and sink tell of themselves, and the references behind which they stand.
+    /// What files and sink tell of themselves, and the references through which they are held.
     ghost io: { Self → Io };
 
     /// The first `most + 1` bytes of a file, or all of it where it is shorter: a file has more than `most` bytes where
@@ -25,7 +26,7 @@ pub trait Outside {
         ensures bytes { IfOk result (λ v. ReadGives (io self.old).world.contents name.now most v.items) }
         ensures short { IfOk result (λ v. length v.items ≤ most + 1) };
 
-    /// Adds bytes at the end of a file. A missing file is made. After a failure a front of the bytes may stand there.
+    /// Adds bytes at the end of a file. A missing file is made. After a failure a prefix of the bytes may stand there.
     fn append(&mut self, name: &str, bytes: &[u8]) -> Result<(), FileFault>
         ensures did { Began (Write Append name.now bytes.now) (io self.old) (io self.new) result };
 

@@ -1,13 +1,14 @@
+//! What takes printed bytes, as a trait.
 ghost use Rattle.std.specs.Prelude.{◌≡◌, ◌<◌, ℕ, List, Option, length, OnOk, IsErrOf};
 ghost use Rattle.outside.specs.Fault.{Counts};
-ghost use Rattle.outside.specs.Sink.{holding, HoldsPart};
+ghost use Rattle.outside.specs.Sink.{output_with, OutputsPart};
 
 use crate::FileFault;
 
 /// Where printed bytes go.
 pub trait Sink {
     /// What it holds, where it tells.
-    ghost held: { Self → Option (List ℕ) };
+    ghost output: { Self → Option (List ℕ) };
 
     /// How often a write has failed. It never falls, and ends at 2^64 - 1.
     ghost faults: { Self → ℕ };
@@ -15,8 +16,8 @@ pub trait Sink {
     /// Writes one piece at the end.
     fn write(&mut self, bytes: &[u8]) -> Result<(), FileFault>
         requires { 0 < length bytes.now }
-        ensures ok { OnOk result (held self.new ≡ holding (held self.old) bytes.now) }
-        ensures failed { IsErrOf result FileFault.Failed → HoldsPart (held self.old) bytes.now (held self.new) }
-        ensures memory { IsErrOf result FileFault.NoMemory → held self.new ≡ held self.old }
+        ensures ok { OnOk result (output self.new ≡ output_with (output self.old) bytes.now) }
+        ensures failed { IsErrOf result FileFault.Failed → OutputsPart (output self.old) bytes.now (output self.new) }
+        ensures memory { IsErrOf result FileFault.NoMemory → output self.new ≡ output self.old }
         ensures count { Counts (faults self.old) (faults self.new) result };
 }

@@ -1,8 +1,9 @@
+//! The files of the operating system.
 ghost use Rattle.std.specs.Prelude.{◌≡◌, ◌<◌, ◌≤◌, ◌+◌, ◌^◌, length, IfOk};
 ghost use Rattle.outside.specs.StdFiles.{failed_reads, failed_writes};
 
 use crate::tally::count_fault;
-use crate::turns::{read_front, write_whole};
+use crate::whole::{read_prefix, write_whole};
 use crate::{FileFault, Files};
 use std::alloc::Global;
 use std::fs::{File, OpenFile, OpenOptions};
@@ -90,7 +91,7 @@ fn read_file<R: rt::Files>(
     ensures { IfOk result (λ v. length v.items ≤ most + 1) }
 {
     let mut file = File::open(rt, name)?;
-    read_front(alloc, &mut file, most)
+    read_prefix(alloc, &mut file, most)
 }
 
 // Adds bytes to the file that is kept, where it has the name, and else to one that is opened and kept in its place. A

@@ -1,7 +1,8 @@
+//! The standard output.
 ghost use Rattle.std.specs.Prelude.{◌≡◌};
 
 use crate::tally::count_fault;
-use crate::turns::write_whole;
+use crate::whole::write_whole;
 use crate::{FileFault, Sink};
 use std::io;
 
@@ -25,7 +26,7 @@ impl<'a, R: Print> StdSink<'a, R> {
 impl<R: Print> Sink for StdSink<'_, R> {
     ghost use Rattle.std.specs.Prelude.{None};
 
-    ghost held = { λ _. None };
+    ghost output = { λ _. None };
 
     ghost faults = { λ s. s.faults };
 

@@ -1,3 +1,4 @@
+//! How many calls were made and how many of them failed.
 ghost use Rattle.std.specs.Prelude.{◌≡◌};
 ghost use Rattle.outside.specs.Fault.{Counts};
 

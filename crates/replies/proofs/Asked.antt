@@ -1,6 +1,6 @@
 -- A file that was asked for.
-use Rattle.std.proofs.Common.{◌≡◌, ℕ, ◌+◌, ◌<◌, ◌≤◌, Bool, true, false, List, [], ◌∷◌, ◌++◌, length, take, Option, Some, None, Ok, Err, nat_le, refl, sym, ◌∙◌, ap, subst, arith}
-use Rattle.std.specs.Prelude.{option_to_list, IfSome, IsSomeAnd, String, Vec, string_bytes, if◌then◌else◌}
+use Rattle.std.proofs.Common.{◌≡◌, ℕ, ◌+◌, ◌<◌, ◌≤◌, Bool, true, false, List, [], ◌∷◌, ◌++◌, length, take, Option, Some, None, Result, Ok, Err, nat_le, refl, sym, ◌∙◌, ap, subst, arith}
+use Rattle.std.specs.Prelude.{option_to_list, IfSome, IsErrAnd, IsSomeAnd, String, Vec, string_bytes, if◌then◌else◌}
 use Rattle.std.specs.declared.alloc.Global.{Global}
 use Rattle.std.proofs.lemmas.Bool.Decides.{nat_tests}
 use Rattle.std.proofs.lemmas.List.{take_all, length-take}
@@ -30,9 +30,9 @@ gave : (w : World) (name : List ℕ) (most : ℕ) (bytes : List ℕ) → TellsBy
 gave w name most bytes tells are short gives = by_contents w.contents refl gives
   where
     by_content : (of : List ℕ → Content) → w.contents ≡ Some of → (content : Content) → content ≡ of name → HoldsBytes content → IsSomeAnd content (λ whole. bytes ≡ take (most + 1) whole) → (whole : List ℕ) × AreBytes whole × IfSome w.contents (λ of. Some whole ≡ of name) × (bytes ≡ take (most + 1) whole)
-    by_content of is None held fit given = absurd given
-    by_content of is (Some whole) held fit given =
-        (whole, fit, subst (λ (o : Option (List ℕ → Content)). IfSome o (λ (f : List ℕ → Content). Some whole ≡ f name)) (sym is) held, given)
+    by_content of is None output fit given = absurd given
+    by_content of is (Some whole) output fit given =
+        (whole, fit, subst (λ (o : Option (List ℕ → Content)). IfSome o (λ (f : List ℕ → Content). Some whole ≡ f name)) (sym is) output, given)
 
     by_contents : (contents : Option (List ℕ → Content)) → w.contents ≡ contents → ReadGives contents name most bytes → (whole : List ℕ) × AreBytes whole × IfSome w.contents (λ of. Some whole ≡ of name) × (bytes ≡ take (most + 1) whole)
     by_contents None is given = (bytes, are, subst (λ (o : Option (List ℕ → Content)). IfSome o (λ of. Some bytes ≡ of name)) (sym is) tt, sym (take_all (most + 1) bytes short))
@@ -58,23 +58,28 @@ module _ (name : List ℕ) (most place : ℕ) (a b : Io) (tells : TellsBytes a.w
   -- the read stopped
   cut_at : (e : Stop) (end : End) → Went (done (Read name most ∷ [])) a b (Some e) → Went (record { steps = Read name most ∷ []; end = end }) a b (Some e)
   cut_at (stops.Refused line) end d = absurd (not_refused _ d.ends.0)
-  cut_at stops.ReadFault end d = record { begun = d.begun; front = d.front; did = d.did; ends = d.ends; place = d.place }
-  cut_at stops.WriteFault end d = record { begun = d.begun; front = d.front; did = d.did; ends = d.ends; place = d.place }
+  cut_at stops.ReadFault end d = record { begun = d.begun; front = d.front; did = d.did; ends = d.ends; refs = d.refs }
+  cut_at stops.WriteFault end d = record { begun = d.begun; front = d.front; did = d.did; ends = d.ends; refs = d.refs }
   cut_at stops.NoMemory end d =
       let is : Read name most ∷ [] ≡ d.begun.done ++ d.front.0 = d.front.1 ∙ ap (λ (o : Option Step). d.begun.done ++ (option_to_list o ++ d.front.0)) d.ends.0 in
-      record { begun = d.begun; front = d.front; did = d.did; ends = (d.ends.0, read_front name most end d.begun.done d.front.0 is); place = d.place }
+      record { begun = d.begun; front = d.front; did = d.did; ends = (d.ends.0, read_front name most end d.begun.done d.front.0 is); refs = d.refs }
 
   pub asked-cut : (e : Stop) → Went (done (Read name most ∷ [])) a b (Some e) → Asked name most place a b (Err e)
-  asked-cut e d = (let held = held_at a.world name tells in record { content = held.0; holds = held.1; agrees = held.2; does = cut_at e (asked_end most place held.0) d; gives = tt })
+  asked-cut e d = (let output = held_at a.world name tells in record { content = output.0; holds = output.1; agrees = output.2; does = cut_at e (asked_end most place output.0) d; gives = tt })
 
-  -- it was done, and then memory was wanted
+  -- the same, as a `?` passes it on
+  pub asked-passed : (r : Result (Vec ℕ Global) Stop) (e : Stop) → IsErrAnd r (λ y. y ≡ e) → Asked name most place a b (Err e) → Asked name most place a b r
+  asked-passed (Ok v) e is asked = absurd is
+  asked-passed (Err y) e is asked = subst (λ (s : Stop). Asked name most place a b (Err s)) (sym is) asked
+
+  -- it was done, and then memory ran out
   asked_memory : (v : Vec ℕ Global) → Went (done (Read name most ∷ [])) a b None → Asked name most place a b (Err stops.NoMemory)
   asked_memory v d =
-      (let held = held_at a.world name tells in
+      (let output = held_at a.world name tells in
       record {
-        content = held.0;
-        holds = held.1;
-        agrees = held.2;
+        content = output.0;
+        holds = output.1;
+        agrees = output.2;
         does =
             record {
               begun = d.begun;
@@ -82,9 +87,9 @@ module _ (name : List ℕ) (most place : ℕ) (a b : Io) (tells : TellsBytes a.w
               did = d.did;
               ends = (
                 ap (λ (x : Begun). x.failed) d.ends.1,
-                subst (λ (x : Begun). IsUndone (steps_with (Read name most ∷ []) (asked_end most place held.0)) x.done) (sym d.ends.1) (read_undone name most (asked_end most place held.0)),
+                subst (λ (x : Begun). IsUndone (steps_with (Read name most ∷ []) (asked_end most place output.0)) x.done) (sym d.ends.1) (read_undone name most (asked_end most place output.0)),
               );
-              place = d.place;
+              refs = d.refs;
             };
         gives = tt;
       })
@@ -101,7 +106,7 @@ module _ (name : List ℕ) (most place : ℕ) (a b : Io) (tells : TellsBytes a.w
           content = Some whole;
           holds = fit;
           agrees = agrees;
-          does = record { begun = d.begun; front = d.front; did = d.did; ends = (end, d.ends.1); place = d.place };
+          does = record { begun = d.begun; front = d.front; did = d.did; ends = (end, d.ends.1); refs = d.refs };
           gives = tt;
         }
 
@@ -122,6 +127,6 @@ module _ (name : List ℕ) (most place : ℕ) (a b : Io) (tells : TellsBytes a.w
           content = Some whole;
           holds = fit;
           agrees = agrees;
-          does = record { begun = d.begun; front = d.front; did = d.did; ends = (end, d.ends.1); place = d.place };
+          does = record { begun = d.begun; front = d.front; did = d.did; ends = (end, d.ends.1); refs = d.refs };
           gives = ap Some (sym same);
         }

@@ -1,9 +1,9 @@
--- What a front of steps comes to, of printed bytes, reads, writes and counts.
+-- What a prefix of steps comes to, of printed bytes, reads, writes and counts.
 use Rattle.std.proofs.Common.{◌≡◌, ◌⊎◌, ℕ, suc, ◌+◌, ◌≤◌, Bool, true, false, cond, List, [], ◌∷◌, ◌++◌, take, Option, Some, None, inl, inr, refl, sym, ◌∙◌, ap, subst, append_assoc, arith}
 use Rattle.std.specs.Prelude.{IsSomeAnd, IsTrue, IsFalse, option_to_list}
 use Rattle.std.proofs.lemmas.List.{append-nil}
 use Rattle.outside.specs.Fault.{Rose}
-use Rattle.outside.specs.Sink.{holding}
+use Rattle.outside.specs.Sink.{output_with}
 use Rattle.outside.specs.Files.{Content, AllRead, write_of}
 use Rattle.outside.specs.Files as files
 use Rattle.outside.specs.Crash.{IsMoment}
@@ -18,11 +18,11 @@ use Rattle.replies.specs.Fronts.{did-all}
 
 -- ---- lists
 
-holding-none : (held : Option (List ℕ)) → held ≡ holding held []
+holding-none : (output : Option (List ℕ)) → output ≡ output_with output []
 holding-none None = refl
 holding-none (Some h) = ap Some (sym (append-nil h))
 
-holding-both : (held : Option (List ℕ)) (p q : List ℕ) → holding (holding held p) q ≡ holding held (p ++ q)
+holding-both : (output : Option (List ℕ)) (p q : List ℕ) → output_with (output_with output p) q ≡ output_with output (p ++ q)
 holding-both None p q = refl
 holding-both (Some h) p q = ap Some (append_assoc h p q)
 
@@ -61,7 +61,7 @@ done_of-both (w ∷ ws) vs = by_done w.done _ (done_of ws) (done_of vs) (done_of
 -- ---- what was done
 
 record Flat (a b : World) (printed : List ℕ) (reads : List files.Read) (begun : List files.Write) : Type 0 where
-  held : b.held ≡ holding a.held printed
+  output : b.output ≡ output_with a.output printed
   reads_begun : b.reads ≡ joined a.reads reads
   writes_begun : b.writes ≡ joined a.writes begun
   contents : GoesOn begun a.contents b.contents
@@ -73,7 +73,7 @@ record SameCounts (a b : World) : Type 0 where
 
 flat-none : (a b : World) → b ≡ a → Flat a b [] [] []
 flat-none a b is = record {
-  held = ap (λ (w : World). w.held) is ∙ holding-none a.held;
+  output = ap (λ (w : World). w.output) is ∙ holding-none a.output;
   reads_begun = ap (λ (w : World). w.reads) is ∙ joined-none a.reads;
   writes_begun = ap (λ (w : World). w.writes) is ∙ joined-none a.writes;
   contents = ap (λ (w : World). w.contents) is;
@@ -81,7 +81,7 @@ flat-none a b is = record {
 
 flat-both : (a b c : World) (p q : List ℕ) (r s : List files.Read) (w v : List files.Write) → Flat a b p r w → Flat b c q s v → Flat a c (p ++ q) (r ++ s) (w ++ v)
 flat-both a b c p q r s w v one two = record {
-  held = two.held ∙ ap (λ (h : Option (List ℕ)). holding h q) one.held ∙ holding-both a.held p q;
+  output = two.output ∙ ap (λ (h : Option (List ℕ)). output_with h q) one.output ∙ holding-both a.output p q;
   reads_begun = two.reads_begun ∙ ap (λ (h : Option (List files.Read)). joined h s) one.reads_begun ∙ joined-both a.reads r s;
   writes_begun = two.writes_begun ∙ ap (λ (h : Option (List files.Write)). joined h v) one.writes_begun ∙ joined-both a.writes w v;
   contents = goes_on-both w v a.contents b.contents c.contents one.contents two.contents;
@@ -90,19 +90,19 @@ flat-both a b c p q r s w v one two = record {
 -- of one step that was done
 flat-step : (s : Step) (a b : World) → WasDone s a b → Flat a b (printed_of (s ∷ [])) (reads_of (s ∷ [])) (writes_of (s ∷ []))
 flat-step (Read name most) a b was = record {
-  held = ap (λ (w : World). w.held) was.1 ∙ holding-none a.held;
+  output = ap (λ (w : World). w.output) was.1 ∙ holding-none a.output;
   reads_begun = ap (λ (w : World). w.reads) was.1;
   writes_begun = ap (λ (w : World). w.writes) was.1 ∙ joined-none a.writes;
   contents = ap (λ (w : World). w.contents) was.1;
 }
 flat-step (Write kind name bytes) a b was = record {
-  held = ap (λ (w : World). w.held) was.1 ∙ holding-none a.held;
+  output = ap (λ (w : World). w.output) was.1 ∙ holding-none a.output;
   reads_begun = ap (λ (w : World). w.reads) was.1 ∙ joined-none a.reads;
   writes_begun = ap (λ (w : World). w.writes) was.1;
   contents = (b.contents, was.0, refl);
 }
 flat-step (Print text) a b was = record {
-  held = ap (λ (w : World). w.held) was ∙ ap (holding a.held) (sym (append-nil text));
+  output = ap (λ (w : World). w.output) was ∙ ap (output_with a.output) (sym (append-nil text));
   reads_begun = ap (λ (w : World). w.reads) was ∙ joined-none a.reads;
   writes_begun = ap (λ (w : World). w.writes) was ∙ joined-none a.writes;
   contents = ap (λ (w : World). w.contents) was;
@@ -149,7 +149,7 @@ shown-behind n (Write kind name bytes ∷ steps) rest total p le shown =
 shown-behind n (Print text ∷ steps) rest total p le shown =
     inr (omega (arith, le), inr (printed_of steps ++ p, append_assoc text (printed_of steps) p, shown-behind n steps rest total p le shown))
 
--- ---- a front of which the last step perhaps failed
+-- ---- a prefix of which the last step perhaps failed
 
 -- what a failed step printed, read and wrote
 record Part (failed : Option Step) (rest : List Step) (a b : World) : Type 0 where
@@ -179,7 +179,7 @@ part (Some (Read name most)) rest a b (rose, is) = record {
   begun = [];
   flat =
       record {
-        held = ap (λ (w : World). w.held) is ∙ holding-none a.held;
+        output = ap (λ (w : World). w.output) is ∙ holding-none a.output;
         reads_begun = ap (λ (w : World). w.reads) is;
         writes_begun = ap (λ (w : World). w.writes) is ∙ joined-none a.writes;
         contents = ap (λ (w : World). w.contents) is;
@@ -195,7 +195,7 @@ part (Some (Write kind name bytes)) rest a b (rose, goes, is) = record {
   begun = write_of kind name bytes false ∷ [];
   flat =
       record {
-        held = ap (λ (w : World). w.held) is ∙ holding-none a.held;
+        output = ap (λ (w : World). w.output) is ∙ holding-none a.output;
         reads_begun = ap (λ (w : World). w.reads) is ∙ joined-none a.reads;
         writes_begun = ap (λ (w : World). w.writes) is;
         contents = (b.contents, goes, refl);
@@ -205,13 +205,13 @@ part (Some (Write kind name bytes)) rest a b (rose, goes, is) = record {
   in_order = (reads_of rest, refl);
   moment = λ front. inr (front, write_of kind name bytes true, writes_of rest, refl, refl);
 }
-part (Some (Print text)) rest a b (rose, (n, held), is) = record {
+part (Some (Print text)) rest a b (rose, (n, output), is) = record {
   printed = take n text;
   reads = [];
   begun = [];
   flat =
       record {
-        held = held;
+        output = output;
         reads_begun = ap (λ (w : World). w.reads) is ∙ joined-none a.reads;
         writes_begun = ap (λ (w : World). w.writes) is ∙ joined-none a.writes;
         contents = ap (λ (w : World). w.contents) is;
@@ -241,7 +241,7 @@ tells-front reply a b status begun late (rest, is) did =
       printed = printed_of begun.done ++ p.printed;
       reads = reads_of begun.done ++ p.reads;
       begun = writes_of begun.done ++ p.begun;
-      held = all.held;
+      output = all.output;
       reads_begun = all.reads_begun;
       writes_begun = all.writes_begun;
       contents = all.contents;
@@ -265,7 +265,7 @@ tells-whole reply a b status same every =
       printed = printed_of reply.steps;
       reads = reads_of reply.steps;
       begun = writes_of reply.steps;
-      held = all.held;
+      output = all.output;
       reads_begun = all.reads_begun;
       writes_begun = all.writes_begun;
       contents = all.contents;

@@ -2,7 +2,7 @@
 use Rattle.std.specs.Prelude.{◌≡◌, ◌≢◌, ◌⊎◌, ℕ, suc, ◌<◌, ◌≤◌, List, [], ◌∷◌, ◌++◌, take, if◌then◌else◌, Option}
 use Rattle.std.specs.Prelude.{None, IsSomeAnd, IsTrue, IsFalse}
 use Rattle.outside.specs.Fault.{Rose}
-use Rattle.outside.specs.Sink.{holding}
+use Rattle.outside.specs.Sink.{output_with}
 use Rattle.outside.specs.Files.{Content, Read, Write, AllRead}
 use Rattle.outside.specs.Crash.{IsMoment}
 use Rattle.outside.specs.Steps.{is_read, joined}
@@ -39,7 +39,7 @@ abbrev pub done_of : List Write → ℕ
 done_of [] = 0
 done_of (w ∷ ws) = if w.done then suc (done_of ws) else done_of ws
 
--- these bytes are a front of the lines, and where a byte of a line is among them, so many writes were done as come
+-- these bytes are a prefix of the lines, and where a byte of a line is among them, so many writes were done as come
 -- before the line
 abbrev pub Shown : List Line → ℕ → List ℕ → Type 0
 Shown [] done printed = printed ≡ []
@@ -54,12 +54,12 @@ abbrev pub GoesOn : List Write → Option (List ℕ → Content) → Option (Lis
 GoesOn [] old new = new ≡ old
 GoesOn (w ∷ ws) old new = (mid : Option (List ℕ → Content)) × AllRead w old mid × GoesOn ws mid new
 
--- What was printed, read and written goes by a reply: fronts of it, and all of it where the status is 0, 1 or 2.
+-- What was printed, read and written goes by a reply: prefixes of it, and all of it where the status is 0, 1 or 2.
 pub record Tells (reply : Reply) (before after : World) (status : ℕ) : Type 0 where
   pub printed : List ℕ
   pub reads : List Read
   pub begun : List Write
-  pub held : after.held ≡ holding before.held printed
+  pub output : after.output ≡ output_with before.output printed
   pub reads_begun : after.reads ≡ joined before.reads reads
   pub writes_begun : after.writes ≡ joined before.writes begun
   pub contents : GoesOn begun before.contents after.contents

@@ -1,4 +1,4 @@
--- How a call ends, behind the plan of its command.
+-- How a call ends, after the plan of its command.
 use Rattle.std.specs.Prelude.{◌≡◌, ℕ, None, IsSomeAnd, IsTrue, IsFalse}
 use Rattle.outside.specs.Steps.{is_read}
 use Rattle.outside.specs.World.{Io}
@@ -23,7 +23,7 @@ pub record Ended (reply : Reply) (before after : Io) (status : ℕ) : Type 0 whe
   pub front : IsFront reply.steps begun
   pub did : Did begun before.world after.world
   pub has_status : HasStatus reply begun status
-  pub place : after.place ≡ before.place
+  pub refs : after.refs ≡ before.refs
 
 -- There is a reply of the model, for what the files hold, and the call ended so.
 pub record Concludes (model : Given → Reply → Type 0) (before after : Io) (status : ℕ) : Type 0 where

@@ -1,4 +1,4 @@
--- Plans one behind the other, and how far each came.
+-- Plans one after the other, and how far each came. Laws with their proofs.
 use Rattle.std.proofs.Common.{◌≡◌, List, [], ◌∷◌, ◌++◌, Bool, false, Option, Some, None, Ok, Err, refl, sym, ◌∙◌}
 use Rattle.std.proofs.Common.{ap, subst, append_assoc}
 use Rattle.std.specs.Prelude.{ℕ, IsTrue, IsFalse, String, option_to_list, string_bytes}
@@ -21,7 +21,7 @@ pub all_done-both : (ps qs : List Step) (a b c : World) → AllDone ps a b → A
 all_done-both [] qs a b c first second = subst (λ (w : World). AllDone qs w c) first second
 all_done-both (p ∷ ps) qs a b c first second = (first.0, first.1, all_done-both ps qs first.0 b c first.2 second)
 
--- what was begun behind these steps
+-- what was begun after these steps
 abbrev pub begun_behind : List Step → Begun → Begun
 begun_behind steps begun = record { done = steps ++ begun.done; failed = begun.failed }
 
@@ -142,7 +142,7 @@ went-then p q a b c stop on first second = record {
         failed = second.did.failed;
       };
   ends = ends-behind p.steps q stop second.begun on second.ends;
-  place = second.place ∙ first.place;
+  refs = second.refs ∙ first.refs;
 }
 
 -- the first alone, which stopped
@@ -153,20 +153,20 @@ went-cut p q a b stop is first = record {
   front = front-before p.steps q.steps first.begun first.front;
   did = first.did;
   ends = ends-cut p q stop first.begun is first.front first.ends;
-  place = first.place;
+  refs = first.refs;
 }
 
 -- ---- one step, or none
 
-went-failed : (s : Step) (a b : Io) (stop : Stop) → HasFailed s a.world b.world → b.place ≡ a.place
+went-failed : (s : Step) (a b : Io) (stop : Stop) → HasFailed s a.world b.world → b.refs ≡ a.refs
     → Ends (done (s ∷ [])) (Some stop) (record { done = []; failed = Some s }) → Went (done (s ∷ [])) a b (Some stop)
-went-failed s a b stop failed place ends =
+went-failed s a b stop failed refs ends =
     record {
       begun = record { done = []; failed = Some s };
       front = ([], refl);
       did = record { mid = a.world; done = refl; failed = failed };
       ends = ends;
-      place = place;
+      refs = refs;
     }
 
 -- memory ran out before the first step
@@ -176,7 +176,7 @@ none_begun p a = record {
   front = (p.steps, refl);
   did = record { mid = a.world; done = refl; failed = refl };
   ends = (refl, undone-none (steps_with p.steps p.end));
-  place = refl;
+  refs = refl;
 }
 
 pub nothing_to_do : (a : Io) → Went (done []) a a None
@@ -185,7 +185,7 @@ nothing_to_do a = record {
   front = ([], refl);
   did = record { mid = a.world; done = refl; failed = refl };
   ends = (refl, refl);
-  place = refl;
+  refs = refl;
 }
 
 pub only_refused : (a : Io) (line : String Global) → Went (refuse (string_bytes line)) a a (Some (stops.Refused line))
@@ -194,7 +194,7 @@ only_refused a line = record {
   front = ([], refl);
   did = record { mid = a.world; done = refl; failed = refl };
   ends = (refl, refl);
-  place = refl;
+  refs = refl;
 }
 
 pub keeps : (name : List ℕ) (most : ℕ) (end : End) (a b : Io)
@@ -218,12 +218,12 @@ onward-print steps line (Some stop) = λ prints. (Print line, [], refl)
 -- ---- what a call on the outside gives
 
 pub step-done : (u : Unit {0}) (s : Step) (a b : Io) → Began {T = Unit {0}} s a b (Ok u) → Went (done (s ∷ [])) a b None
-step-done u s a b (was, place) = record {
+step-done u s a b (was, refs) = record {
   begun = all_of (s ∷ []);
   front = ([], refl);
   did = record { mid = b.world; done = (b.world, was, refl); failed = refl };
   ends = (refl, refl);
-  place = place;
+  refs = refs;
 }
 
 module _ (s : Step) (a b : Io) where

@@ -1,4 +1,4 @@
--- Models that read or check and then go on: what follows them, and that each has one plan.
+-- Models that read or check and then go on: what follows them, and that each has one plan. Laws with their proofs.
 use Rattle.std.proofs.Common.{◌≡◌, ℕ, zero, suc, ◌<◌, ◌≤◌, Bool, true, false, List, [], ◌∷◌, length, Option, Some, None}
 use Rattle.std.proofs.Common.{Result, Ok, Err, nat_le, refl, sym, ◌∙◌, ap, subst, arith}
 use Rattle.std.specs.Prelude.{IfSome, Vec, string_bytes, if◌then◌else◌}
@@ -22,7 +22,7 @@ use Rattle.replies.specs.Fronts.{no_print, went-then, went-cut, keeps, none_begu
 
 -- ---- what is given
 
--- this to the first read, and the rest to those behind it
+-- this to the first read, and the rest to those after it
 abbrev pub first_given : Content → Given → Given
 first_given content given zero = content
 first_given content given (suc n) = given n

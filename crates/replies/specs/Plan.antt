@@ -10,7 +10,7 @@ use Rattle.replies.specs.Steps.{Begun, all_of, Did, IsFront, NotEmpty, ends_in_p
 use Rattle.replies.specs.declared.stop.Stop.{Stop}
 use Rattle.replies.specs.declared.stop.Stop.TheVariants as stops
 
--- how a part of a command ends behind its last step
+-- how a part of a command ends after its last step
 pub data End : Type 0 where
   Done : End
   -- a refusal with this line, which is still to be printed
@@ -80,13 +80,13 @@ Ends plan (Some stops.WriteFault) begun = IsSomeAnd begun.failed (λ step. IsFal
 Ends plan (Some stops.NoMemory) begun =
     (begun.failed ≡ None) × IsUndone (steps_with plan.steps plan.end) begun.done
 
--- A part did a front of the plan, all of it where it ended by itself, and nothing else.
+-- A part did a prefix of the plan, all of it where it ended by itself, and nothing else.
 pub record Went (plan : Plan) (before after : Io) (stop : Option Stop) : Type 0 where
   pub begun : Begun
   pub front : IsFront plan.steps begun
   pub did : Did begun before.world after.world
   pub ends : Ends plan stop begun
-  pub place : after.place ≡ before.place
+  pub refs : after.refs ≡ before.refs
 
 abbrev pub Does : {T : Type 0} → Plan → Io → Io → Result T Stop → Type 0
 Does plan before after result = Went plan before after (stop_of result)
@@ -97,7 +97,7 @@ abbrev pub Onward : List Step → Plan → Option Stop → Type 0
 Onward steps plan None = Unit {0}
 Onward steps plan (Some stop) = IsTrue (ends_in_print steps) → NotEmpty (steps_with plan.steps plan.end)
 
--- There is a plan of the model, for what the files hold, that a part did a front of.
+-- There is a plan of the model, for what the files hold, that a part did a prefix of.
 pub record WentBy (model : Given → Plan → Type 0) (before after : Io) (stop : Option Stop) : Type 0 where
   pub given : Given
   pub plan : Plan

@@ -1,4 +1,4 @@
--- What holds of every recipe.
+-- What holds of every recipe. Laws with their proofs.
 use Rattle.std.proofs.Common.{◌≡◌, ◌⊎◌, inl, inr, ℕ, ◌≤◌, List, [], ◌∷◌, ◌++◌, length, Option, Some, None, Result, Ok}
 use Rattle.std.proofs.Common.{Err, refl, sym, ◌∙◌, ap, subst, arith}
 use Rattle.std.specs.Prelude.{Vec, IsErrAnd}
@@ -8,7 +8,7 @@ use Rattle.outside.specs.Files.{Content}
 use Rattle.outside.specs.Files as files
 use Rattle.outside.specs.Steps.{Step, Read}
 use Rattle.outside.specs.World.{Io}
-use Rattle.replies.specs.Asking.{asks, missing, too_long, found, checks, refused, goes_on, lined, IsModel}
+use Rattle.replies.specs.Asking.{missing, too_long, found, checks, refused, goes_on, lined, IsModel}
 use Rattle.replies.specs.Asking.{IsCheck, Asked}
 use Rattle.replies.specs.Plan.{End, Done, Refused, Plan, done, behind, Given, later, TellsBytes, GivenBy, Onward, Went}
 use Rattle.replies.specs.Plan.{WentBy, stop_of}
@@ -20,8 +20,8 @@ use Rattle.replies.specs.Recipe.{Own, checked, owe, Recipe, read, own, File, own
 use Rattle.replies.specs.Recipe.{Sound, gives, AfterFiles, FilesRead, OwnRefuses, OwnRefusal}
 use Rattle.replies.specs.Refused.{RefusesBy}
 use Rattle.replies.specs.Runs.{Refuses, Checks, FileRead, OwnRuns, Runs, MayStop, Onto}
-use Rattle.replies.specs.Fronts.{went-then, went-cut, keeps}
-use Rattle.replies.specs.Going.{read_first, not_both, asks-model, checks-model, steps-model, asked-then, asked-stopped}
+use Rattle.replies.specs.Fronts.{went-then, went-cut, keeps, none_begun}
+use Rattle.replies.specs.Going.{not_both, asks-model, checks-model, steps-model, asked-then, asked-stopped}
 use Rattle.replies.specs.Going.{checked-then, checked-stopped}
 
 -- ---- there is one plan
@@ -90,6 +90,16 @@ follows (own part) sound a c stop tells runs = own-follows part sound a c stop t
 pub passed_on : {T : Type 0} (r : Result T Stop) (e : Stop) → IsErrAnd r (λ y. y ≡ e) → stop_of r ≡ Some e
 passed_on (Ok x) e is = absurd is
 passed_on (Err y) e is = ap (λ (x : Stop). Some x) is
+
+-- what was done of a plan, where it stopped so
+pub went_passed : {T : Type 0} (plan : Plan) (a b : Io) (r : Result T Stop) (e : Stop) → IsErrAnd r (λ y. y ≡ e)
+    → Went plan a b (Some e) → Went plan a b (stop_of r)
+went_passed plan a b r e is went = subst (λ (stop : Option Stop). Went plan a b stop) (sym (passed_on r e is)) went
+
+-- nothing was done of a plan, where memory ran out before its first step
+pub none_passed : {T : Type 0} (plan : Plan) (a : Io) (r : Result T Stop) → IsErrAnd r (λ y. y ≡ stops.NoMemory)
+    → Went plan a a (stop_of r)
+none_passed plan a r is = went_passed plan a a r stops.NoMemory is (none_begun plan a)
 
 -- a file that was asked for, and then checked
 pub file_read : {T V : Type 0} (file : File V) (view : T → V) (a b : Io) (bytes : Vec ℕ Global) (front : List ℕ)
@@ -203,7 +213,7 @@ same_bytes x y o p q = cc
 no_bytes : (x : List ℕ) (o : Content) → o ≡ None → o ≡ Some x → ⊥
 no_bytes x o p q = cc
 
--- behind a file that was found, where what follows it is complete
+-- after a file that was found, where what follows it is complete
 found-complete : {V : Type 0} (file : File V) (next : V → Recipe) {more : List ℕ}
     → IsCheck (file.format file.place more) → (of : List ℕ → Content) (given : Given) (plan : Plan) (bytes : List ℕ)
     (v : V) → of file.name ≡ Some bytes → length bytes ≤ file.most → file.format file.place bytes (Ok v)

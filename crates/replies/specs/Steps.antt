@@ -28,7 +28,7 @@ pub record Did (begun : Begun) (before after : World) : Type 0 where
   pub done : AllDone begun.done before mid
   pub failed : ThenFailed begun.failed mid after
 
--- What was begun is a front of these steps. Behind a step that failed none is begun.
+-- What was begun is a prefix of these steps. After a step that failed none is begun.
 abbrev pub IsFront : List Step → Begun → Type 0
 IsFront steps begun = (rest : List Step) × (steps ≡ begun.done ++ (option_to_list begun.failed ++ rest))
 

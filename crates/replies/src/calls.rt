@@ -1,4 +1,4 @@
-// The calls on the outside, each with what stops a command where it fails.
+//! The calls on the outside, each with what stops a command where it fails.
 ghost use Rattle.std.specs.Prelude.{◌≡◌, ◌<◌, ◌≤◌, ◌+◌, ◌^◌, [], ◌∷◌, length, IsFalse, IfOk};
 ghost use Rattle.outside.specs.Files.{Append, Replace, ReadGives};
 ghost use Rattle.outside.specs.Steps.{Step, Read, Write, Print, Began, is_read};
@@ -81,8 +81,6 @@ pub fn replace_and_say<O: Outside>(
     ensures { Does (done (Write Replace name.now bytes.now ∷ Print line.now ∷ []))
         (O.io out.old) (O.io out.new) result }
 {
-    match replace(out, name, bytes) {
-        Ok(()) => say(out, line),
-        Err(stop) => Err(stop),
-    }
+    replace(out, name, bytes)?;
+    say(out, line)
 }

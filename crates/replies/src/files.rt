@@ -1,4 +1,4 @@
-// The files that a command reads.
+//! The files that a command reads.
 ghost use Rattle.std.specs.Prelude.{◌+◌, ◌<◌, ◌≤◌, ◌^◌, length, IfOk};
 ghost use Rattle.outside.specs.Bytes.{AreBytes};
 ghost use Rattle.replies.specs.Asking.{Asked, fit_together};
@@ -28,16 +28,12 @@ pub fn ask<O: Outside>(
     ensures small { IfOk result (λ v. length v.items ≤ most) }
     ensures bytes { IfOk result (λ v. AreBytes v.items) }
 {
-    match read(alloc, out, name, most) {
-        Ok(bytes) => {
-            are_bytes(bytes.as_slice());
-            if bytes.len() as u64 > most {
-                return Err(refused_size(alloc, place));
-            }
-            Ok(bytes)
-        }
-        Err(stop) => Err(stop),
+    let bytes = read(alloc, out, name, most)?;
+    are_bytes(bytes.as_slice());
+    if bytes.len() as u64 > most {
+        return Err(refused_size(alloc, place));
     }
+    Ok(bytes)
 }
 
 // What a slice of bytes holds. It does nothing when it runs.

@@ -1,7 +1,7 @@
-// Laws of plans and of replies, each the contract of a function with nothing to do.
+//! Laws of plans and of replies, each the contract of a function with nothing to do.
 ghost use Rattle.replies.specs.Laws.{PlanLaws, StepLaws, TellLaws};
 
-/// How far a plan came behind another, and that a read leaves what the files hold.
+/// How far a plan came after another, and that a read leaves what the files hold.
 pub fn plans_join()
     ensures { PlanLaws }
 {}

@@ -1,4 +1,4 @@
-// Refusals by their lines.
+//! Refusals by their lines.
 ghost use Rattle.replies.specs.Line.{refused_size};
 ghost use Rattle.replies.specs.Refused.{RefusesBy};
 ghost use Rattle.word_lines.specs.Piece.{text_of_line};

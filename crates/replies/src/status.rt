@@ -1,4 +1,4 @@
-// The status that a call ends with.
+//! The status that a call ends with.
 ghost use Rattle.std.specs.Prelude.{◌≡◌, ◌≤◌, List, [], ◌∷◌, ◌++◌, Some};
 ghost use Rattle.outside.specs.Steps.{Step, Print};
 ghost use Rattle.outside.specs.World.{Io};
@@ -48,8 +48,8 @@ fn close_at<O: Outside>(stop: Stop, out: &mut O) -> u8
         → Ended (reply_of plan) start (O.io out.new) result }
 {
     match stop {
-        Stop::Refused(line) => told(out, line.as_bytes(), REFUSED),
-        stop => stopped(&stop),
+        Stop::Refused(line) => print_last(out, line.as_bytes(), REFUSED),
+        stop => status_of_stop(&stop),
     }
 }
 
@@ -58,7 +58,7 @@ fn close_at<O: Outside>(stop: Stop, out: &mut O) -> u8
 pub fn usage<O: Outside>(out: &mut O) -> u8
     ensures { Ended usage_reply (O.io out.old) (O.io out.new) result }
 {
-    told(out, USAGE_LINE, USAGE)
+    print_last(out, USAGE_LINE, USAGE)
 }
 
 /// Ends a call where memory ran out before its first step: gives the status 5.
@@ -69,21 +69,21 @@ pub fn out_of_memory() -> u8
 }
 
 // Prints the last line of a reply of this status, whose other steps were done.
-fn told<O: Outside>(out: &mut O, line: &[u8], status: u8) -> u8
+fn print_last<O: Outside>(out: &mut O, line: &[u8], status: u8) -> u8
     requires { status ≤ 2 }
     ensures { (steps : List Step) (start : Io)
-        → (O.io out.old).place ≡ start.place
+        → (O.io out.old).refs ≡ start.refs
         → AllDone steps start.world (O.io out.old).world
         → Ended (record { status = status; steps = steps ++ Print line.now ∷ [] }) start (O.io out.new) result }
 {
     match say(out, line) {
         Ok(()) => status,
-        Err(stop) => stopped(&stop),
+        Err(stop) => status_of_stop(&stop),
     }
 }
 
 // The status of a call that stopped.
-fn stopped(stop: &Stop) -> u8
+fn status_of_stop(stop: &Stop) -> u8
     ensures { (reply : Reply) (begun : Begun) → Stops stop.now reply begun → HasStatus reply begun result }
 {
     match stop {

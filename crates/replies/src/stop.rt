@@ -1,3 +1,4 @@
+//! Why a command stops before its end.
 use wire::NoMemory;
 
 /// Why a command ends before its last step.

@@ -1,4 +1,4 @@
-// What is answered of a text as a filter of rows, and as a list of attributes.
+//! What is answered of a text as a filter of rows, and as a list of attributes.
 use anyhow::{Result, bail};
 use filter_syntax::{Filter, FilterFault, RowKind, parse_by, parse_filter, print_filter};
 use std::str;
@@ -12,13 +12,13 @@ pub fn filter(rt: &(impl Print + AllocGlobal), kind: &str, text: &[u8]) -> Resul
         kind => bail!("no kind of rows: {kind}"),
     };
     match parse_filter(rt.alloc(), kind, str::from_utf8(text)?) {
-        Ok(filter) => tell_filter(rt, &filter),
-        Err(fault) => tell(rt, fault),
+        Ok(filter) => print_shown(rt, &filter),
+        Err(fault) => print_fault(rt, fault),
     }
 }
 
 /// Prints the names, with commas between them, or the fault of the text.
-pub fn by(rt: &(impl Print + AllocGlobal), text: &[u8]) -> Result<()> {
+pub fn attribute_names(rt: &(impl Print + AllocGlobal), text: &[u8]) -> Result<()> {
     match parse_by(rt.alloc(), str::from_utf8(text)?) {
         Ok(names) => {
             print!(rt; "by")?;
@@ -31,11 +31,11 @@ pub fn by(rt: &(impl Print + AllocGlobal), text: &[u8]) -> Result<()> {
             println!(rt)?;
             Ok(())
         }
-        Err(fault) => tell(rt, fault),
+        Err(fault) => print_fault(rt, fault),
     }
 }
 
-fn tell_filter(rt: &(impl Print + AllocGlobal), filter: &Filter) -> Result<()> {
+fn print_shown(rt: &(impl Print + AllocGlobal), filter: &Filter) -> Result<()> {
     let Ok(printed) = print_filter(rt.alloc(), filter) else {
         bail!("no memory");
     };
@@ -43,7 +43,7 @@ fn tell_filter(rt: &(impl Print + AllocGlobal), filter: &Filter) -> Result<()> {
     Ok(())
 }
 
-fn tell(rt: &impl Print, fault: FilterFault) -> Result<()> {
+fn print_fault(rt: &impl Print, fault: FilterFault) -> Result<()> {
     match fault {
         FilterFault::Syntax { at } => println!(rt; "syntax {at}")?,
         FilterFault::UnknownAttribute { at } => println!(rt; "attribute {at}")?,

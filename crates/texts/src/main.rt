@@ -59,7 +59,7 @@ fn ask(rt: &(impl Print + AllocGlobal), text: &[u8], verb: &str, rest: &str) -> 
         ("check", "") => sources::checked(rt, text),
         ("print", "") => sources::printed(rt, text),
         ("filter", kind) => filters::filter(rt, kind, text),
-        ("by", "") => filters::by(rt, text),
+        ("by", "") => filters::attribute_names(rt, text),
         (verb, _) => bail!("no line of a script: {verb}"),
     }
 }

@@ -1,4 +1,4 @@
-// What is answered of a text as a source of Ivy.
+//! What is answered of a text as a source of Ivy.
 use anyhow::{Result, bail};
 use ivy_check::{Checked, TypeFault, check};
 use ivy_syntax::{ParseFault, parse, print};
@@ -7,7 +7,7 @@ use ivy_syntax::{ParseFault, parse, print};
 pub fn parsed(rt: &(impl Print + AllocGlobal), text: &[u8]) -> Result<()> {
     match parse(rt.alloc(), text) {
         Ok(_) => println!(rt; "source")?,
-        Err(fault) => tell(rt, fault)?,
+        Err(fault) => print_fault(rt, fault)?,
     }
     Ok(())
 }
@@ -15,8 +15,8 @@ pub fn parsed(rt: &(impl Print + AllocGlobal), text: &[u8]) -> Result<()> {
 /// Prints `checked`, or the first type fault, or the fault of the text.
 pub fn checked(rt: &(impl Print + AllocGlobal), text: &[u8]) -> Result<()> {
     match parse(rt.alloc(), text) {
-        Ok(source) => tell_types(rt, check(source)),
-        Err(fault) => tell(rt, fault),
+        Ok(source) => print_verdict(rt, check(source)),
+        Err(fault) => print_fault(rt, fault),
     }
 }
 
@@ -30,11 +30,11 @@ pub fn printed(rt: &(impl Print + AllocGlobal), text: &[u8]) -> Result<()> {
             print!(rt; "{printed}")?;
             Ok(())
         }
-        Err(fault) => tell(rt, fault),
+        Err(fault) => print_fault(rt, fault),
     }
 }
 
-fn tell_types(rt: &impl Print, answer: Result<Checked, TypeFault>) -> Result<()> {
+fn print_verdict(rt: &impl Print, answer: Result<Checked, TypeFault>) -> Result<()> {
     match answer {
         Ok(_) => println!(rt; "checked")?,
         Err(TypeFault::At { at, kind }) => println!(rt; "type {kind} {at}")?,
@@ -43,7 +43,7 @@ fn tell_types(rt: &impl Print, answer: Result<Checked, TypeFault>) -> Result<()>
     Ok(())
 }
 
-fn tell(rt: &impl Print, fault: ParseFault) -> Result<()> {
+fn print_fault(rt: &impl Print, fault: ParseFault) -> Result<()> {
     match fault {
         ParseFault::Syntax { at } => println!(rt; "syntax {at}")?,
         ParseFault::TooMany { what, at } => println!(rt; "toomany {what} {at}")?,

@@ -1,3 +1,4 @@
+pub mod Label
 pub mod OneValue
 pub mod Page
 pub mod Written

@@ -1,3 +1,4 @@
+//! What programs see of their transactions.
 ghost use Rattle.data_model.specs.Transaction.{IsTx};
 
 use crate::transactions::ISSUES;

@@ -1,3 +1,4 @@
+//! Calls of data_model.
 ghost use Rattle.data_model.specs.Spelling.{IsBlock};
 
 use crate::transactions::{ISSUES, SPENDS};
@@ -59,7 +60,7 @@ fn blocks_again(rt: HostRuntime) -> Result<(), Fail> {
     Ok(())
 }
 
-// The header and the arguments of the block, and these bytes behind them.
+// The header and the arguments of the block, and these bytes after them.
 fn with(alloc: Global, count: &[u8], first: &[u8], second: &[u8]) -> Result<Bytes, NoMemory> {
     let mut bytes = Bytes::from_slice(alloc, &BLOCK[..107])?;
     bytes.extend_from_slice(count)?;
@@ -74,14 +75,14 @@ fn blocks_with_transactions(rt: HostRuntime) -> Result<(), Fail> {
     let block = decode_block(rt.alloc(), bytes.as_slice())?;
     assert!(rt; block.txs.len() == 2);
     assert!(rt; block_again(rt.alloc(), &block)?.as_slice() == bytes.as_slice());
-    // behind the length of two bytes
+    // after the length of two bytes
     let file = frame(rt.alloc(), &block)?;
     assert!(rt; file.len() == 375 && file.as_slice().starts_with(b"\xf5\x02"));
     assert!(rt; read_blocks(rt.alloc(), &file)?.len() == 1);
     Ok(())
 }
 
-// What stands behind the arguments: a count, and what should be two transactions or parts of them; and the fault. The
+// What stands after the arguments: a count, and what should be two transactions or parts of them; and the fault. The
 // places are those of another program, Python's, which reads by the table of fields.
 const FAULTS: [(&[u8], &[u8], &[u8], u64, DataKind); 10] = [
     // the count
@@ -100,7 +101,7 @@ const FAULTS: [(&[u8], &[u8], &[u8], u64, DataKind); 10] = [
         231,
         DataKind::Zero,
     ),
-    // bytes behind the end
+    // bytes after the end
     (
         b"\x02",
         ISSUES,

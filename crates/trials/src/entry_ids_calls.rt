@@ -1,3 +1,4 @@
+//! Calls of entry_ids.
 use data_model::Header;
 use entry_ids::block_id;
 use keyed::Sha256Id;

@@ -1,3 +1,4 @@
+//! Calls of keyed.
 use keyed::{IdHash, NoSigs, Sha256Id, SigCheck};
 
 // The digests of the empty text and of `abc` that FIPS 180-4 has as examples.

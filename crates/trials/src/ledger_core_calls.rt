@@ -1,3 +1,4 @@
+//! Calls of ledger_core.
 ghost use Rattle.std.specs.Prelude.{◌≡◌, ◌<◌, ◌^◌, [], IfOk};
 ghost use Rattle.data_model.specs.Spelling.{IsHeader};
 

@@ -1,3 +1,4 @@
+//! Calls of ledger_file.
 ghost use Rattle.data_model.specs.Spelling.{IsBlock};
 
 use data_model::{Block, DataKind, decode_block};
@@ -8,7 +9,7 @@ use outside::{Both, FileFault, MemFiles, MemSink};
 use std::alloc::{AllocError, Global};
 use std::test::Fail;
 
-// The frames of two blocks, each of 103 bytes behind the length: version 1, heights and times 1 and 2, the ids before
+// The frames of two blocks, each of 103 bytes after the length: version 1, heights and times 1 and 2, the ids before
 // them, twice the hash of nothing, the program 51, no argument and no transaction. The ids are by hashlib of Python.
 const FILE: &[u8; 208] = b"\x67\x01\x01\
     \0\0\0\0\0\0\0\0\0\0\0\0\0\0\0\0\0\0\0\0\0\0\0\0\0\0\0\0\0\0\0\0\x01\
@@ -64,7 +65,7 @@ fn ledgers_of_files(rt: HostRuntime) -> Result<(), Fail> {
         (first, none, Ok(1)),
         (first, second, Ok(2)),
         (none, none, frame_fault(0, 0, DataKind::Count)),
-        // the last frame is torn, in its block and behind its length
+        // the last frame is torn, in its block and after its length
         (first, &file[104..207], frame_fault(1, 104, DataKind::Short)),
         (first, &file[104..105], frame_fault(1, 104, DataKind::Short)),
         // a block of two bytes, which spell its version with one too many

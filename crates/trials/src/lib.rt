@@ -1,5 +1,5 @@
-//! Tests of library calls, a module a crate: what no contract says, and each call once on its happy path; and a small
-//! record that shows how one is declared. Whole calls of the program, with each fault of files and a sink in memory,
+//! Tests of library calls, a module a crate: what no contract says, and each call once on its happy path; and small
+//! records that show how one is declared. Whole calls of the program, with each fault of files and a sink in memory,
 //! are played by the crate `calls`.
 #![tactic(auto)]
 
@@ -11,6 +11,9 @@ mod data_model_calls;
 mod entry_ids_calls;
 #[cfg(test)]
 mod keyed_calls;
+pub mod label;
+#[cfg(test)]
+mod label_calls;
 #[cfg(test)]
 mod ledger_core_calls;
 #[cfg(test)]

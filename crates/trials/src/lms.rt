@@ -1,3 +1,4 @@
+//! LMS keys and signatures.
 // Roots and signatures are those of a program in Python that was written from the layouts of the standard alone.
 use hash_sigs::{LmsCheck, LmsKey};
 use keyed::{IdHash, Sha256Id, SigCheck, SignFault, SignKey};

@@ -107,7 +107,7 @@ fn appends_between<F: Files>(rt: &HostRuntime, files: &mut F, name: &str, other:
         && holds(rt, name, b"newer!")
 }
 
-/// A replace leaves no draft behind, whatever stood there, so that a folder can be made in its place. The draft goes by
+/// A replace leaves no draft, whatever stood there, so that a folder can be made in its place. The draft goes by
 /// the name with `.new`: where that is a folder, nothing is replaced.
 fn replaces<F: Files>(rt: &HostRuntime, files: &mut F, name: &str, draft: &str) -> bool {
     fs::write(rt, draft, "an old draft, longer than the file").is_ok()

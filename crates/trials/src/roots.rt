@@ -1,3 +1,4 @@
+//! Roots of lists and of sets.
 use keyed::Sha256Id;
 use merkle::{list_root, set_root};
 use wire::Id;

@@ -1,3 +1,4 @@
+//! Signatures of a quorum.
 use keyed::{NoMemory, SigCheck, TableCheck};
 use std::alloc::Global;
 use std::test::Fail;

@@ -1,3 +1,4 @@
+//! Ids of transactions and of their entries.
 ghost use Rattle.data_model.specs.Transaction.{IsTx};
 
 use crate::transactions::{ISSUES, SPENDS};

@@ -1,3 +1,4 @@
+//! Programs that look at their transactions.
 ghost use Rattle.std.specs.Prelude.{IfOk};
 ghost use Rattle.vm_run.specs.Row.{NumbersFit};
 

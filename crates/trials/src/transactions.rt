@@ -1,3 +1,4 @@
+//! Transactions as bytes.
 ghost use Rattle.data_model.specs.Transaction.{IsTx};
 
 use data_model::{Tx, decode_tx, encode_tx};
@@ -117,7 +118,7 @@ const FAULTS: [(&[u8], u64, DataKind); 24] = [
         45,
         DataKind::Short,
     ),
-    // bytes behind the end
+    // bytes after the end
     (b"\x01\0\0\0\0\0\0", 6, DataKind::Trailing),
 ];
 

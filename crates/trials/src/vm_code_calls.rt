@@ -1,3 +1,4 @@
+//! Calls of vm_code.
 use std::alloc::Global;
 use vm_code::{AsmFault, CodeFault, assemble, disassemble, next};
 

@@ -1,3 +1,4 @@
+//! Calls of vm_num.
 use std::alloc::Global;
 use vm_num::{add, div, mul, push_bytes, push_int, read_num, rem, shl, shr, sub, truth, write_num};
 
@@ -38,7 +39,7 @@ fn spells_and_reads_numbers(rt: HostRuntime) {
     assert_eq!(rt; misspelled(), None);
 }
 
-// So many bytes, and what stands before them in their shortest push.
+// So many bytes, and what stands before them in their push.
 const FRONTS: [(u32, &[u8]); 8] = [
     (0, b"\x00"),
     (1, b"\x01"),

@@ -1,3 +1,4 @@
+//! Calls of vm_ops.
 // Values by Python, from the lines of the code table. The crate `calls` plays all of it.
 use std::alloc::Global;
 use vm_num::Failure;
@@ -11,7 +12,7 @@ fn is_within() -> bool {
     }
 }
 
-// SUBSTR, behind what was there.
+// SUBSTR, after what was there.
 fn is_part(alloc: Global) -> bool {
     let Ok(mut out) = b"a".to_vec(alloc) else {
         return false;

@@ -1,3 +1,4 @@
+//! Calls of vm_run.
 ghost use Rattle.std.specs.Prelude.{◌<◌, ◌^◌, IfOk};
 ghost use Rattle.vm_run.specs.Row.{NumbersFit};
 

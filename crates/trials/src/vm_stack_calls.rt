@@ -1,3 +1,4 @@
+//! Calls of vm_stack.
 // What is expected is worked out by hand from the lines of the code table for DROP, PICK, ROLL, TOALTSTACK and
 // FROMALTSTACK; an item costs 8 and its length. The crate `calls` plays more moves.
 use keyed::Pile;

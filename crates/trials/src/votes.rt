@@ -100,7 +100,7 @@ fn quorums_are_read(rt: HostRuntime) -> Result<(), Fail> {
 }
 
 // Nearly programs of a quorum: no key, none asked for, more asked for than there are, another count, a key that is not
-// pushed in the shortest way, another code at the front, none at the end, and one more behind it.
+// pushed as items are, another code at the front, none at the end, and one more after it.
 const NO_QUORUMS: [&[u8]; 9] = [
     b"",
     b"\xaf\x51\x00\xad",

@@ -71,7 +71,7 @@ fn two_strings(alloc: Global) -> Result<Args, NoMemory> {
     args.copy(alloc)
 }
 
-// One byte behind two.
+// One byte after two.
 fn three_bytes(alloc: Global) -> Result<Bytes, NoMemory> {
     let mut bytes = Bytes::new(alloc);
     bytes.extend_from_slice(b"ab")?;
@@ -105,7 +105,7 @@ fn page_again(alloc: Global) -> Result<Vec<u8>, DataFault> {
     Ok(encode(alloc, &page)?)
 }
 
-// A note, and behind it the note in a frame.
+// A note, and after it the note in a frame.
 fn note_twice(alloc: Global) -> Result<Bytes, DataFault> {
     let note: Note = decode(alloc, b"\x01\x00")?;
     let mut out = Bytes::new(alloc);
@@ -191,7 +191,7 @@ fn no_pages_and_no_files(rt: HostRuntime) {
     }
 }
 
-// Two entries behind their lengths.
+// Two entries after their lengths.
 fn is_file(alloc: Global) -> bool {
     let Ok(entries) = read_frames::<Entry>(alloc, b"\x01\x00\x05\x01\x07\x02ab", 8) else {
         return false;

@@ -1,3 +1,4 @@
+//! Ids against the layouts written out.
 ghost use Rattle.std.specs.Prelude.{◌≡◌};
 ghost use Rattle.trials.specs.Written.{folded, written_byte, written_hash, written-length, written-fits};
 

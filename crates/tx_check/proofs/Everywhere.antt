@@ -4,8 +4,9 @@ use Rattle.std.specs.Prelude.{◌⊎◌, slice_get, Contains, map, option_map}
 use Rattle.std.proofs.lemmas.Option.{slice_get_within, get_or_from_slice_get, slice_get-get_or, slice_get-map}
 use Rattle.std.proofs.lemmas.Bool.{cases_lt}
 use Rattle.std.proofs.lemmas.List.{length-take, length-map}
-use Rattle.wire.specs.Tables.{Line, HoldsNot}
-use Rattle.tx_check.specs.FirstPlaces.{StandsAt, NoneBelow, got, one_there}
+use Rattle.wire.specs.Tables.{HoldsNot, Cause}
+use Rattle.tx_check.specs.FirstPlaces.{NoneBelow}
+use Rattle.wire.specs.Lists.{StandsAt, got, one_there}
 
 -- it holds of none of so many at the front
 abbrev pub NotBelow : {X : Type 0} → (X → Type 0) → List X → ℕ → Type 0
@@ -105,14 +106,14 @@ get_in_take k xs j x e =
     let less : j < k = omega arith in
     (less, sym (slice_get_take k xs j less) ∙ e)
 
--- a line that holds of none of the values at the front does not hold of one that is among them
-pub known : {R X Y : Type 0} (line : Y → Line R) (f : X → Y) (xs slice : List X) (k : ℕ) (y : Y) → slice ≡ xs → NoneBelow (λ n z. line z) (map f xs) k → Contains (map f (take k slice)) y → HoldsNot (line y)
-known {R} {X} {Y} line f xs slice k y same none h =
+-- a cause that holds of none of the values at the front does not hold of one that is among them
+pub known : {R X Y : Type 0} (cause : Y → Cause R) (f : X → Y) (xs slice : List X) (k : ℕ) (y : Y) → slice ≡ xs → NoneBelow (λ n z. cause z) (map f xs) k → Contains (map f (take k slice)) y → HoldsNot (cause y)
+known {R} {X} {Y} cause f xs slice k y same none h =
     let at = place_of (map f (take k slice)) y h in
     let from = from_map f (take k slice) at.0 y at.1 in
     let there = get_in_take k slice at.0 from.0 from.1 in
     let in_xs : slice_get xs at.0 ≡ Some from.0 = ap (λ (zs : List X). slice_get zs at.0) (sym same) ∙ there.1 in
-    subst (λ (z : Y). HoldsNot (line z)) from.2 (none at.0 (f from.0) there.0 (map_at f xs at.0 from.0 in_xs))
+    subst (λ (z : Y). HoldsNot (cause z)) from.2 (none at.0 (f from.0) there.0 (map_at f xs at.0 from.0 in_xs))
 
 -- along a slice, by what each element is mapped to
 pub map_along : {X Y : Type 0} {xs slice : List X} {i : ℕ} {x : X} {y : Y} (f : X → Y) → slice ≡ xs → StandsAt slice i x → y ≡ f x → slice_get (map f xs) i ≡ Some y

@@ -1,25 +1,26 @@
 -- A transaction that has what a valid one has is not refused.
 use Rattle.std.proofs.Common.{◌≡◌, ℕ, ◌<◌, ◌≤◌, ◌^◌, List, take, Some, inl, inr, arith}
 use Rattle.std.specs.Prelude.{slice_get, Contains}
-use Rattle.wire.specs.Tables.{Line, HoldsNot}
+use Rattle.wire.specs.Tables.{HoldsNot, Cause}
 use Rattle.data_model.specs.declared.input.Input.{Input}
 use Rattle.data_model.specs.declared.output.Output.{Output}
 use Rattle.data_model.specs.declared.tx.Tx.{Tx}
 use Rattle.entry_ids.specs.declared.input.Named.{Named}
-use Rattle.entry_ids.specs.Entry.{Hash}
+use Rattle.keyed.specs.Functions.{Hash}
 use Rattle.entry_ids.specs.Ids.{mux_id, result_id, result_ids}
-use Rattle.vm_run.specs.Row.{Check}
+use Rattle.keyed.specs.Functions.{Check}
 use Rattle.tx_check.specs.FirstPlace.{AtFirst}
 use Rattle.tx_check.specs.View.{State}
 use Rattle.tx_check.specs.Table.{UsesNonce, IsSpend, IsNonce, IssuesAnother, AreUnbalanced, SpendsNone, UsesLive, IsControl, IsTaken, HasFailing, named_by, sum_in, sum_out, TxValid}
 use Rattle.tx_check.specs.Valid.{Valid, NoneTwice, IsNew}
 use Rattle.tx_check.proofs.Everywhere.{place_of, get_in_take}
-use Rattle.tx_check.proofs.Table.{◌&◌, SomeVerdict, not_there}
+use Rattle.wire.specs.Tables.{◌&◌}
+use Rattle.tx_check.proofs.Table.{SomeVerdict, not_there}
 use Rattle.tx_check.proofs.Verdicts.{OneVerdict}
 
--- a line that holds at no place
-nowhere_of : {R X : Type 0} (line : ℕ → X → Line R) (xs : List X) → ((k : ℕ) (x : X) → slice_get xs k ≡ Some x → HoldsNot (line k x)) → HoldsNot (AtFirst line xs)
-nowhere_of line xs none told f = none f.place f.item f.there told f.tells
+-- a cause that holds at no place
+nowhere_of : {R X : Type 0} (cause : ℕ → X → Cause R) (xs : List X) → ((k : ℕ) (x : X) → slice_get xs k ≡ Some x → HoldsNot (cause k x)) → HoldsNot (AtFirst cause xs)
+nowhere_of cause xs none reported f = none f.place f.item f.there reported f.reports
 
 -- a name of this kind that stands once has none before it
 once_only : (kind : List ℕ → Named) (named : List Named) → NoneTwice kind named → (k : ℕ) (id : List ℕ) → slice_get named k ≡ Some (kind id) → Contains (take k named) (kind id) → ⊥
@@ -80,19 +81,19 @@ module _ (some : SomeVerdict) (one : OneVerdict) (hash : Hash) (check : Check) (
   pub not_refused : TxValid hash check state time tx
   not_refused = record {
     first =
-        (λ told h. h.0 v.version)
-        & (λ told h. (let le : tx.mintime ≤ tx.maxtime = v.some_time h.0.0 in let less : tx.maxtime < tx.mintime = h.0.1 in absurd (omega arith)))
-        & (λ told h. (let le : tx.mintime ≤ time = v.not_early in let less : time < tx.mintime = h.0 in absurd (omega arith)))
-        & (λ told h. (let le : time ≤ tx.maxtime = v.not_late h.0.0 in let less : tx.maxtime < time = h.0.1 in absurd (omega arith)))
-        & nowhere_of _ tx.inputs (λ k input e told h. y5 k input e h.0)
-        & (λ told h. h.0 v.told_apart.0 v.told_apart.1 v.told_apart.2 v.told_apart.3)
-        & nowhere_of _ (named_by hash tx) (λ k name e told h. y7 k name e h.0)
-        & nowhere_of _ (named_by hash tx) (λ k name e told h. y8 k name e h.0)
-        & nowhere_of _ tx.inputs (λ k input e told h. y9 k input e h.0)
-        & nowhere_of _ _ (λ k asset e told h. y10 asset h.0)
-        & nowhere_of _ tx.inputs (λ k input e told h. y11 k input e h.0)
-        & nowhere_of _ (named_by hash tx) (λ k name e told h. y12 k name e h.0)
-        & nowhere_of _ tx.outputs (λ k output e told h. y13 k output e h.0)
+        (λ reported h. h.0 v.version)
+        & (λ reported h. (let le : tx.mintime ≤ tx.maxtime = v.some_time h.0.0 in let less : tx.maxtime < tx.mintime = h.0.1 in absurd (omega arith)))
+        & (λ reported h. (let le : tx.mintime ≤ time = v.not_early in let less : time < tx.mintime = h.0 in absurd (omega arith)))
+        & (λ reported h. (let le : time ≤ tx.maxtime = v.not_late h.0.0 in let less : tx.maxtime < time = h.0.1 in absurd (omega arith)))
+        & nowhere_of _ tx.inputs (λ k input e reported h. y5 k input e h.0)
+        & (λ reported h. h.0 v.told_apart.0 v.told_apart.1 v.told_apart.2 v.told_apart.3)
+        & nowhere_of _ (named_by hash tx) (λ k name e reported h. y7 k name e h.0)
+        & nowhere_of _ (named_by hash tx) (λ k name e reported h. y8 k name e h.0)
+        & nowhere_of _ tx.inputs (λ k input e reported h. y9 k input e h.0)
+        & nowhere_of _ _ (λ k asset e reported h. y10 asset h.0)
+        & nowhere_of _ tx.inputs (λ k input e reported h. y11 k input e h.0)
+        & nowhere_of _ (named_by hash tx) (λ k name e reported h. y12 k name e h.0)
+        & nowhere_of _ tx.outputs (λ k output e reported h. y13 k output e h.0)
         & y14
         & tt;
   }

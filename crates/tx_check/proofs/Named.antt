@@ -2,7 +2,7 @@
 use Rattle.std.proofs.Common.{◌≡◌, ℕ, List, [], ◌∷◌, None, refl}
 use Rattle.data_model.specs.declared.input.Input.{Input}
 use Rattle.data_model.specs.declared.tx.Tx.{Tx}
-use Rattle.entry_ids.specs.Entry.{Hash}
+use Rattle.keyed.specs.Functions.{Hash}
 use Rattle.entry_ids.specs.Ids.{names, nonce_named}
 use Rattle.tx_check.specs.Parts.{named_output, spent_id}
 

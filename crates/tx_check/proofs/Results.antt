@@ -4,15 +4,15 @@ use Rattle.std.specs.Prelude.{slice_get, map}
 use Rattle.std.specs.List.{enumerate_from}
 use Rattle.std.proofs.lemmas.List.{length-map}
 use Rattle.std.proofs.lemmas.Option.{get_or_from_slice_get}
-use Rattle.wire.specs.Tables.{Tells}
+use Rattle.wire.specs.Tables.{Reports}
 use Rattle.data_model.specs.declared.output.Output.{Output}
 use Rattle.data_model.specs.declared.tx.Tx.{Tx}
-use Rattle.entry_ids.specs.Entry.{Hash}
+use Rattle.keyed.specs.Functions.{Hash}
 use Rattle.entry_ids.specs.Ids.{result_id, result_ids, mux_id}
 use Rattle.tx_check.specs.declared.refusal.TxRefusal.TheVariants.{X13}
 use Rattle.tx_check.specs.View.{State}
 use Rattle.tx_check.specs.Table.{IsTaken}
-use Rattle.tx_check.specs.FirstPlaces.{StandsAt}
+use Rattle.wire.specs.Lists.{StandsAt}
 use Rattle.tx_check.proofs.Everywhere.{got_along}
 
 counted_from : {X Y : Type 0} (f : ℕ → X → Y) (n : ℕ) (xs : List X) (i : ℕ) (x : X) → slice_get xs i ≡ Some x → slice_get (map (λ (y : ℕ × X). f y.0 y.1) (enumerate_from n xs)) i ≡ Some (f (n + i) x)
@@ -43,7 +43,7 @@ module _ (P : Type 0) (state : State) (results ids : List (List ℕ)) (same : re
   abbrev Found : Type 0
   Found = P × IsTaken state results k read
 
-  pub takes : Found → Tells (P × IsTaken state ids k id) (X13 k id) (X13 k read)
+  pub takes : Found → Reports (P × IsTaken state ids k id) (X13 k id) (X13 k read)
   takes h =
       (subst (λ (z : List ℕ). P × IsTaken state ids k z) is (subst (λ (zs : List (List ℕ)). P × IsTaken state zs k read) same h), ap (X13 k) is)
 

@@ -7,7 +7,7 @@ use Rattle.data_model.specs.declared.input.Input.{Input}
 use Rattle.data_model.specs.declared.output.Output.{Output}
 use Rattle.tx_check.specs.Parts.{asset_in, amount_in}
 use Rattle.tx_check.specs.Table.{units, sum_in, sum_out, asset_out, amount_out}
-use Rattle.tx_check.specs.FirstPlaces.{StandsAt}
+use Rattle.wire.specs.Lists.{StandsAt}
 
 -- one value more
 sum_more : {X : Type 0} (f : X → ℕ) (xs : List X) (i : ℕ) (x : X) → StandsAt xs i x → sum_by f (take (i + 1) xs) ≡ sum_by f (take i xs) + f x

@@ -1,11 +1,11 @@
--- What a transaction has that no line of the table refuses.
+-- What a transaction has that no cause of the table refuses.
 use Rattle.std.proofs.Common.{◌≡◌, ◌≢◌, ℕ, suc, ◌+◌, ◌<◌, ◌≤◌, ◌^◌, Bool, true, false, List, [], ◌∷◌, map, take, Some, None, refl, sym, ◌∙◌, ap, inl, inr, arith}
 use Rattle.std.specs.Prelude.{slice_get, Contains, bytes_eq, if◌then◌else◌}
 use Rattle.std.specs.List.{sum_by}
 use Rattle.std.proofs.lemmas.Bool.{cases_lt}
 use Rattle.std.proofs.lemmas.List.Sums.{sum_by-cons}
 use Rattle.std.proofs.lemmas.List.Elements.{Contains-append_left, Contains-append_right}
-use Rattle.wire.specs.Tables.{Tells, HoldsNot, First}
+use Rattle.wire.specs.Tables.{HoldsNot, First, Reports}
 use Rattle.data_model.specs.declared.input.Issue.{Issue}
 use Rattle.data_model.specs.declared.input.Spend.{Spend}
 use Rattle.data_model.specs.declared.input.Input.{Input}
@@ -13,16 +13,17 @@ use Rattle.data_model.specs.declared.output.Control.{Control}
 use Rattle.data_model.specs.declared.output.Output.{Output}
 use Rattle.data_model.specs.declared.tx.Tx.{Tx}
 use Rattle.entry_ids.specs.declared.input.Named.{Named}
-use Rattle.entry_ids.specs.Entry.{Hash}
+use Rattle.keyed.specs.Functions.{Hash}
 use Rattle.entry_ids.specs.Ids.{asset_id, output_id, mux_id, result_id, result_ids}
-use Rattle.vm_run.specs.Row.{Check}
+use Rattle.keyed.specs.Functions.{Check}
 use Rattle.tx_check.specs.declared.refusal.TxRefusal.{TxRefusal}
 use Rattle.tx_check.specs.declared.refusal.TxRefusal.TheVariants.{X5, X6, X7, X8, X9, X11, X12}
 use Rattle.tx_check.specs.Parts.{asset_in, amount_in}
 use Rattle.tx_check.specs.View.{State, Holds, IsLive}
-use Rattle.tx_check.specs.Table.{UsesNonce, TellsApart, IsSpend, IsNonce, IssuesAnother, AreUnbalanced, IsUnbalanced, SpendsNone, UsesLive, IsTaken, TakesId, FailsThere, HasUnbalanced, named_by, assets, asset_out, amount_out, units, sum_in, sum_out, tx_lines, TxValid}
+use Rattle.tx_check.specs.Table.{UsesNonce, TellsApart, IsSpend, IsNonce, IssuesAnother, AreUnbalanced, IsUnbalanced, SpendsNone, UsesLive, IsTaken, TakesId, FailsThere, HasUnbalanced, named_by, assets, asset_out, amount_out, units, sum_in, sum_out, tx_causes, TxValid}
 use Rattle.tx_check.specs.Valid.{Valid, NoneTwice, IsBalanced}
-use Rattle.tx_check.proofs.Decisions.{bytes_decided, nat_decided, contains_decided, unspent_decided, stable, same_bytes}
+use Rattle.tx_check.proofs.Decisions.{unspent_decided}
+use Rattle.wire.specs.Decisions.{bytes_decided, nat_decided, contains_decided, stable, same_bytes}
 use Rattle.tx_check.specs.FirstPlaces.{everywhere}
 use Rattle.tx_check.proofs.Everywhere.{contains_at, place_of, take_has}
 use Rattle.tx_check.proofs.Table.{SomeVerdict, some_apart, succeeds_there}
@@ -110,73 +111,73 @@ module _ (tx : Tx) (none : HoldsNot (HasUnbalanced tx)) (asset : List ℕ) where
 
 -- ---- the facts
 
-at_most : {P : Type 0} {values : TxRefusal} {t u : ℕ} → HoldsNot (Tells (P × (t < u)) values) → P → u ≤ t
+at_most : {P : Type 0} {values : TxRefusal} {t u : ℕ} → HoldsNot (Reports (P × (t < u)) values) → P → u ≤ t
 at_most {P} {values} {t} {u} none p = elim (cases_lt t u) [
   | inl less ↦ absurd (none values ((p, less), refl))
   | inr le ↦ le
 ]
 
-at_least : {values : TxRefusal} {t u : ℕ} → HoldsNot (Tells (t < u) values) → u ≤ t
+at_least : {values : TxRefusal} {t u : ℕ} → HoldsNot (Reports (t < u) values) → u ≤ t
 at_least {values} {t} {u} none = elim (cases_lt t u) [
   | inl less ↦ absurd (none values (less, refl))
   | inr le ↦ le
 ]
 
 module _ (some : SomeVerdict) (one : OneVerdict) (hash : Hash) (check : Check) (state : State) (time : ℕ) (tx : Tx) (valid : TxValid hash check state time tx) where
-  abbrev lines : First (tx_lines hash check state time tx) None
-  lines = valid.first
+  abbrev causes : First (tx_causes hash check state time tx) None
+  causes = valid.first
 
   x1 : tx.version ≡ 1
-  x1 = stable (nat_decided tx.version 1) (λ n. lines.0 _ (n, refl))
+  x1 = stable (nat_decided tx.version 1) (λ n. causes.0 _ (n, refl))
 
   x5 : (k : ℕ) (issue : Issue) → slice_get tx.inputs k ≡ Some (Input.Issue issue) → issue.nonce ≢ [] → tx.maxtime ≢ 0
   x5 k issue e nonce none =
-      everywhere (λ n input. Tells (UsesNonce input × (tx.maxtime ≡ 0)) (X5 n)) tx.inputs lines.1.1.1.1.0 k (Input.Issue issue) e (X5 k) ((nonce, none), refl)
+      everywhere (λ n input. Reports (UsesNonce input × (tx.maxtime ≡ 0)) (X5 n)) tx.inputs causes.1.1.1.1.0 k (Input.Issue issue) e (X5 k) ((nonce, none), refl)
 
   x6 : (k : ℕ) × (input : Input) × (slice_get tx.inputs k ≡ Some input) × TellsApart input
-  x6 = some_apart tx.inputs (λ none. lines.1.1.1.1.1.0 X6 (none, refl))
+  x6 = some_apart tx.inputs (λ none. causes.1.1.1.1.1.0 X6 (none, refl))
 
   x7 : NoneTwice (λ id. Named.Output id) (named_by hash tx)
   x7 = none_twice (λ id. Named.Output id) IsSpend (λ id. tt) (named_by hash tx)
-      (λ k name e h. everywhere (λ n other. Tells (IsSpend other × Contains (take n (named_by hash tx)) other) (X7 n)) (named_by hash tx) lines.1.1.1.1.1.1.0 k name e (X7 k) (h, refl))
+      (λ k name e h. everywhere (λ n other. Reports (IsSpend other × Contains (take n (named_by hash tx)) other) (X7 n)) (named_by hash tx) causes.1.1.1.1.1.1.0 k name e (X7 k) (h, refl))
 
   x8 : NoneTwice (λ id. Named.Nonce id) (named_by hash tx)
   x8 = none_twice (λ id. Named.Nonce id) IsNonce (λ id. tt) (named_by hash tx)
-      (λ k name e h. everywhere (λ n other. Tells (IsNonce other × Contains (take n (named_by hash tx)) other) (X8 n)) (named_by hash tx) lines.1.1.1.1.1.1.1.0 k name e (X8 k) (h, refl))
+      (λ k name e h. everywhere (λ n other. Reports (IsNonce other × Contains (take n (named_by hash tx)) other) (X8 n)) (named_by hash tx) causes.1.1.1.1.1.1.1.0 k name e (X8 k) (h, refl))
 
   x9 : (k : ℕ) (issue : Issue) → slice_get tx.inputs k ≡ Some (Input.Issue issue) → issue.asset ≡ asset_id hash state.initial issue.program issue.definition
   x9 k issue e =
       stable (bytes_decided issue.asset (asset_id hash state.initial issue.program issue.definition))
-      (λ other. everywhere (λ n input. Tells (IssuesAnother hash state.initial input) (X9 n)) tx.inputs lines.1.1.1.1.1.1.1.1.0 k (Input.Issue issue) e (X9 k) (other, refl))
+      (λ other. everywhere (λ n input. Reports (IssuesAnother hash state.initial input) (X9 n)) tx.inputs causes.1.1.1.1.1.1.1.1.0 k (Input.Issue issue) e (X9 k) (other, refl))
 
   x11 : (k : ℕ) (spend : Spend) → slice_get tx.inputs k ≡ Some (Input.Spend spend) → Holds state (output_id hash spend.from) spend.from
   x11 k spend e =
       stable (contains_decided unspent_decided state.unspent _)
-      (λ not. everywhere (λ n input. Tells (SpendsNone hash state input) (X11 n)) tx.inputs lines.1.1.1.1.1.1.1.1.1.1.0 k (Input.Spend spend) e (X11 k) (not, refl))
+      (λ not. everywhere (λ n input. Reports (SpendsNone hash state input) (X11 n)) tx.inputs causes.1.1.1.1.1.1.1.1.1.1.0 k (Input.Spend spend) e (X11 k) (not, refl))
 
   x12 : (k : ℕ) (id : List ℕ) → slice_get (named_by hash tx) k ≡ Some (Named.Nonce id) → IsLive state id → ⊥
   x12 k id e live =
-      everywhere (λ n name. Tells (UsesLive state name) (X12 n)) (named_by hash tx) lines.1.1.1.1.1.1.1.1.1.1.1.0 k (Named.Nonce id) e (X12 k) (live, refl)
+      everywhere (λ n name. Reports (UsesLive state name) (X12 n)) (named_by hash tx) causes.1.1.1.1.1.1.1.1.1.1.1.0 k (Named.Nonce id) e (X12 k) (live, refl)
 
   x13 : (k : ℕ) (control : Control) → slice_get tx.outputs k ≡ Some (Output.Control control) → IsTaken state (result_ids hash tx) k (result_id hash (mux_id hash tx) k (Output.Control control)) → ⊥
   x13 k control e taken =
-      everywhere (TakesId hash state tx) tx.outputs lines.1.1.1.1.1.1.1.1.1.1.1.1.0 k (Output.Control control) e _ ((tt, taken), refl)
+      everywhere (TakesId hash state tx) tx.outputs causes.1.1.1.1.1.1.1.1.1.1.1.1.0 k (Output.Control control) e _ ((tt, taken), refl)
 
   x14 : (k : ℕ) (input : Input) → slice_get tx.inputs k ≡ Some input → HoldsNot (FailsThere hash check tx k input)
-  x14 k input e = everywhere (FailsThere hash check tx) tx.inputs lines.1.1.1.1.1.1.1.1.1.1.1.1.1.0 k input e
+  x14 k input e = everywhere (FailsThere hash check tx) tx.inputs causes.1.1.1.1.1.1.1.1.1.1.1.1.1.0 k input e
 
   pub facts : Valid hash check state time tx
   facts = record {
     version = x1;
-    some_time = λ has. at_most lines.1.0 has;
-    not_early = at_least lines.1.1.0;
-    not_late = λ has. at_most lines.1.1.1.0 has;
+    some_time = λ has. at_most causes.1.0 has;
+    not_early = at_least causes.1.1.0;
+    not_late = λ has. at_most causes.1.1.1.0 has;
     nonces_end = x5;
     told_apart = x6;
     spent_once = x7;
     used_once = x8;
     own_assets = x9;
-    balanced = is_balanced tx lines.1.1.1.1.1.1.1.1.1.0;
+    balanced = is_balanced tx causes.1.1.1.1.1.1.1.1.1.0;
     unspent = x11;
     none_live = x12;
     new_ids = λ k control e. record {

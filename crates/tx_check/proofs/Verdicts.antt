@@ -4,12 +4,12 @@ use Rattle.std.specs.Prelude.{slice_get}
 use Rattle.wire.specs.Tables.{HoldsNot}
 use Rattle.data_model.specs.declared.input.Input.{Input}
 use Rattle.data_model.specs.declared.tx.Tx.{Tx}
-use Rattle.entry_ids.specs.Entry.{Hash}
+use Rattle.keyed.specs.Functions.{Hash}
 use Rattle.vm_run.specs.declared.context.Context.{Context}
 use Rattle.vm_run.specs.declared.context.Context.TheVariants as contexts
 use Rattle.vm_run.specs.declared.verdict.Verdict.{Verdict}
 use Rattle.vm_run.specs.declared.verdict.Verdict.TheVariants.{Succeeded, Failed}
-use Rattle.vm_run.specs.Row.{Check}
+use Rattle.keyed.specs.Functions.{Check}
 use Rattle.vm_run.specs.Verdict.{HasVerdict}
 use Rattle.tx_check.specs.Parts.{args_in, program_in}
 use Rattle.tx_check.specs.Contexts.{context_at, FailsAs, InputVerdict, IsContext, VerdictAt}
@@ -50,6 +50,6 @@ verdict_of hash check tx k input verdict there at =
 
 -- a program that succeeds does not fail
 pub does_not_fail : OneVerdict → (hash : Hash) (check : Check) (tx : Tx) (k : ℕ) (input : Input) (left : ℕ) → InputVerdict hash check tx k input (Succeeded left) → HoldsNot (FailsAs hash check tx k input)
-does_not_fail one hash check tx k input left h told fails =
-    let same : Succeeded left ≡ Failed told.1 told.2 = one _ check _ _ 10000 (Succeeded left) (Failed told.1 told.2) h fails.0 in
+does_not_fail one hash check tx k input left h reported fails =
+    let same : Succeeded left ≡ Failed reported.1 reported.2 = one _ check _ _ 10000 (Succeeded left) (Failed reported.1 reported.2) h fails.0 in
     cc

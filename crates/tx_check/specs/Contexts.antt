@@ -1,10 +1,10 @@
 -- What the program of an input is run for, and how it ends.
-use Rattle.std.specs.Prelude.{◌≡◌, ◌==◌, ℕ, ◌-◌, ◌^◌, true, false, List, [], map, slice_get, Some}
-use Rattle.std.specs.Prelude.{if◌then◌else◌}
+use Rattle.std.specs.Prelude.{◌≡◌, ◌==◌, ℕ, true, false, List, [], map, slice_get, Some, if◌then◌else◌}
 use Rattle.data_model.specs.declared.input.Input.{Input}
 use Rattle.data_model.specs.declared.output.Output.{Output}
 use Rattle.data_model.specs.declared.tx.Tx.{Tx}
-use Rattle.entry_ids.specs.Entry.{Hash}
+use Rattle.wire.specs.Spelling.{greatest}
+use Rattle.keyed.specs.Functions.{Hash}
 use Rattle.entry_ids.specs.Ids.{input_data, input_id, result_data, sig_hash as signed_hash, tx_id}
 use Rattle.vm_num.specs.declared.failure.Failure.{Failure}
 use Rattle.vm_run.specs.declared.context.Context.{Context}
@@ -13,9 +13,9 @@ use Rattle.vm_run.specs.declared.transaction.OutSeen.{OutSeen}
 use Rattle.vm_run.specs.declared.transaction.TxContext.{TxContext}
 use Rattle.vm_run.specs.declared.verdict.Verdict.{Verdict}
 use Rattle.vm_run.specs.declared.verdict.Verdict.TheVariants.{Failed}
-use Rattle.vm_run.specs.Row.{Check}
+use Rattle.keyed.specs.Functions.{Check}
 use Rattle.vm_run.specs.Verdict.{HasVerdict}
-use Rattle.wire.specs.Tables.{Line}
+use Rattle.wire.specs.Tables.{Cause}
 use Rattle.tx_check.specs.Parts.{amount_in, args_in, asset_in, program_in, spent_id}
 
 -- ---- the context of an input
@@ -43,9 +43,9 @@ seen_outputs hash tx = map (λ output. seen (result_data hash output) output) tx
 
 -- the greatest time of a block that may hold the transaction: 2^63 - 1 where it has none
 abbrev pub last_time : (maxtime : ℕ) → ℕ
-last_time maxtime = if maxtime == 0 then 2 ^ 63 - 1 else maxtime
+last_time maxtime = if maxtime == 0 then greatest else maxtime
 
--- what is told of an input that stands at this place
+-- what is reported of an input that stands at this place
 abbrev pub context_at : Hash → Tx → (place : ℕ) → Input → TxContext
 context_at hash tx place input = record {
   asset = asset_in input;
@@ -95,7 +95,7 @@ pub record VerdictAt (hash : Hash) (check : Check) (tx : Tx) (place : ℕ) (verd
 abbrev pub FailsAt : Hash → Check → Tx → (place : ℕ) → Input → Failure → (at : ℕ) → Type 0
 FailsAt hash check tx place input kind at = InputVerdict hash check tx place input (Failed kind at)
 
--- the same as a line of a table, which tells the input's place, the kind and the place in the program
-abbrev pub FailsAs : Hash → Check → Tx → (place : ℕ) → Input → Line (ℕ × Failure × ℕ)
-FailsAs hash check tx place input told =
-    FailsAt hash check tx place input told.1 told.2 × (told.0 ≡ place)
+-- the same as a cause of a table, which reports the input's place, the kind and the place in the program
+abbrev pub FailsAs : Hash → Check → Tx → (place : ℕ) → Input → Cause (ℕ × Failure × ℕ)
+FailsAs hash check tx place input reported =
+    FailsAt hash check tx place input reported.1 reported.2 × (reported.0 ≡ place)

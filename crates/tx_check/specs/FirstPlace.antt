@@ -1,17 +1,17 @@
--- The first place of a list at which something is to be told.
+-- The first place of a list at which something is to be reported.
 use Rattle.std.specs.Prelude.{◌≡◌, ◌<◌, ℕ, List, slice_get, Option, Some, None}
-use Rattle.wire.specs.Tables.{Line, HoldsNot}
+use Rattle.wire.specs.Tables.{HoldsNot, Cause}
 
--- At a place, counted from 0, a line holds of the place and of what stands there, and tells this; at no place before it
--- does it hold.
-pub record AtFirst {R X : Type 0} (line : ℕ → X → Line R) (xs : List X) (told : R) : Type 0 where
+-- At a place, counted from 0, a cause holds of the place and of what stands there, and reports this; at no place
+-- before it does it hold.
+pub record AtFirst {R X : Type 0} (cause : ℕ → X → Cause R) (xs : List X) (reported : R) : Type 0 where
   pub place : ℕ
   pub item : X
   pub there : slice_get xs place ≡ Some item
-  pub tells : line place item told
-  pub none_before : (k : ℕ) (other : X) → k < place → slice_get xs k ≡ Some other → HoldsNot (line k other)
+  pub reports : cause place item reported
+  pub none_before : (k : ℕ) (other : X) → k < place → slice_get xs k ≡ Some other → HoldsNot (cause k other)
 
--- what is found out of a line: what it tells, or that it does not hold
-abbrev pub Found : {R : Type 0} → Line R → Option R → Type 0
-Found line None = HoldsNot line
-Found line (Some told) = line told
+-- what is found out of a cause: what it reports, or that it does not hold
+abbrev pub Found : {R : Type 0} → Cause R → Option R → Type 0
+Found cause None = HoldsNot cause
+Found cause (Some reported) = cause reported

@@ -2,18 +2,17 @@
 use Rattle.std.specs.Prelude.{◌≡◌, ℕ, Option}
 use Rattle.wire.specs.Tables.{OneAnswer}
 use Rattle.data_model.specs.declared.tx.Tx.{Tx}
-use Rattle.entry_ids.specs.Entry.{Hash}
-use Rattle.vm_run.specs.Row.{Check}
+use Rattle.keyed.specs.Functions.{Hash, Check}
 use Rattle.tx_check.specs.declared.refusal.TxRefusal.{TxRefusal}
 use Rattle.tx_check.specs.View.{State}
-use Rattle.tx_check.specs.Table.{tx_lines, Refusal}
+use Rattle.tx_check.specs.Table.{tx_causes, Refusal}
 
 -- a transaction has a refusal or none, and no two
 pub record RefusalLaws (hash : Hash) (check : Check) : Type 0 where
-  pub table : (state : State) (time : ℕ) (tx : Tx) → OneAnswer (tx_lines hash check state time tx)
+  pub table : (state : State) (time : ℕ) (tx : Tx) → OneAnswer (tx_causes hash check state time tx)
   pub some :
       (state : State) (time : ℕ) (tx : Tx)
-      → (line : Option TxRefusal) × Refusal hash check state time tx line
+      → (cause : Option TxRefusal) × Refusal hash check state time tx cause
   pub one :
       (state : State) (time : ℕ) (tx : Tx) (a b : Option TxRefusal)
       → Refusal hash check state time tx a

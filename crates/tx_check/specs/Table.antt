@@ -1,19 +1,19 @@
--- Why a transaction is refused: the table of refusals, X1 to X14, a definition a line.
+-- Why a transaction is refused: the table of refusals, X1 to X14, a definition a cause.
 use Rattle.std.specs.Prelude.{◌≡◌, ◌≢◌, ◌<◌, ◌≤◌, ◌^◌, ◌⊎◌, ℕ, List, [], ◌∷◌, ◌++◌, map, take, slice_get, Contains}
 use Rattle.std.specs.Prelude.{Option, Some, None, if◌then◌else◌, bytes_eq}
 use Rattle.std.specs.List.{sum_by}
-use Rattle.wire.specs.Tables.{Line, Tells, First}
+use Rattle.wire.specs.Tables.{First, Cause, Reports}
 use Rattle.data_model.specs.declared.input.Input.{Input}
 use Rattle.data_model.specs.declared.output.Output.{Output}
 use Rattle.data_model.specs.declared.tx.Tx.{Tx}
 use Rattle.entry_ids.specs.declared.input.Named.{Named}
-use Rattle.entry_ids.specs.Entry.{Hash}
+use Rattle.keyed.specs.Functions.{Hash}
 use Rattle.entry_ids.specs.Ids.{asset_id, output_id, mux_id, result_id, result_ids, names}
 use Rattle.vm_num.specs.declared.failure.Failure.{Failure}
-use Rattle.vm_run.specs.Row.{Check}
+use Rattle.keyed.specs.Functions.{Check}
 use Rattle.tx_check.specs.declared.refusal.TxRefusal.{TxRefusal}
-use Rattle.tx_check.specs.declared.refusal.TxRefusal.TheVariants.{X1, X2, X3, X4, X5, X6, X7, X8, X9, X10, X11}
-use Rattle.tx_check.specs.declared.refusal.TxRefusal.TheVariants.{X12, X13, X14}
+use Rattle.tx_check.specs.declared.refusal.TxRefusal.TheVariants.{X1, X2, X3, X4, X5, X6, X7, X8, X9, X10, X11, X12}
+use Rattle.tx_check.specs.declared.refusal.TxRefusal.TheVariants.{X13, X14}
 use Rattle.tx_check.specs.declared.refusal.TxFault.{TxFault}
 use Rattle.tx_check.specs.declared.refusal.TxFault.TheVariants.{Refused, NoMemory}
 use Rattle.tx_check.specs.Contexts.{FailsAt}
@@ -24,22 +24,22 @@ use Rattle.tx_check.specs.View.{State, HasId, Holds, IsLive}
 -- ---- the version and the times
 
 -- X1: the version is not 1
-abbrev pub IsOfAnotherVersion : Tx → Line TxRefusal
-IsOfAnotherVersion tx = Tells (tx.version ≢ 1) (X1 tx.version)
+abbrev pub IsOfAnotherVersion : Tx → Cause TxRefusal
+IsOfAnotherVersion tx = Reports (tx.version ≢ 1) (X1 tx.version)
 
 -- X2: there is a maxtime, and mintime passes it
-abbrev pub HasNoTime : Tx → Line TxRefusal
-HasNoTime tx = Tells ((tx.maxtime ≢ 0) × (tx.maxtime < tx.mintime)) (X2 tx.mintime tx.maxtime)
+abbrev pub HasNoTime : Tx → Cause TxRefusal
+HasNoTime tx = Reports ((tx.maxtime ≢ 0) × (tx.maxtime < tx.mintime)) (X2 tx.mintime tx.maxtime)
 
 -- X3: the block's time is below mintime
-abbrev pub IsEarly : ℕ → Tx → Line TxRefusal
-IsEarly time tx = Tells (time < tx.mintime) (X3 tx.mintime time)
+abbrev pub IsEarly : ℕ → Tx → Cause TxRefusal
+IsEarly time tx = Reports (time < tx.mintime) (X3 tx.mintime time)
 
 -- X4: there is a maxtime, and the block's time passes it
-abbrev pub IsLate : ℕ → Tx → Line TxRefusal
-IsLate time tx = Tells ((tx.maxtime ≢ 0) × (tx.maxtime < time)) (X4 tx.maxtime time)
+abbrev pub IsLate : ℕ → Tx → Cause TxRefusal
+IsLate time tx = Reports ((tx.maxtime ≢ 0) × (tx.maxtime < time)) (X4 tx.maxtime time)
 
--- ---- what tells a transaction from all others
+-- ---- what sets a transaction apart from all others
 
 -- an issuance with a nonce
 abbrev pub UsesNonce : Input → Type 0
@@ -47,8 +47,8 @@ UsesNonce (Input.Issue issue) = issue.nonce ≢ []
 UsesNonce (Input.Spend spend) = ⊥
 
 -- X5: an issuance has a nonce and there is no maxtime; the first
-abbrev pub HasEndlessNonce : Tx → Line TxRefusal
-HasEndlessNonce tx = AtFirst (λ k input. Tells (UsesNonce input × (tx.maxtime ≡ 0)) (X5 k)) tx.inputs
+abbrev pub HasEndlessNonce : Tx → Cause TxRefusal
+HasEndlessNonce tx = AtFirst (λ k input. Reports (UsesNonce input × (tx.maxtime ≡ 0)) (X5 k)) tx.inputs
 
 -- a spend, or an issuance with a nonce
 abbrev pub TellsApart : Input → Type 0
@@ -56,9 +56,9 @@ TellsApart (Input.Issue issue) = issue.nonce ≢ []
 TellsApart (Input.Spend spend) = Unit {0}
 
 -- X6: no input is a spend or an issuance with a nonce
-abbrev pub IsNotToldApart : Tx → Line TxRefusal
+abbrev pub IsNotToldApart : Tx → Cause TxRefusal
 IsNotToldApart tx =
-    Tells ((k : ℕ) (input : Input) → slice_get tx.inputs k ≡ Some input → TellsApart input → ⊥) X6
+    Reports ((k : ℕ) (input : Input) → slice_get tx.inputs k ≡ Some input → TellsApart input → ⊥) X6
 
 -- what the inputs name, in order: the outputs that they spend, the nonces that they use
 abbrev pub named_by : Hash → Tx → List Named
@@ -71,8 +71,8 @@ IsSpend (Named.Nonce id) = ⊥
 IsSpend (Named.Output id) = Unit {0}
 
 -- X7: a spend names the output of an earlier input; the first
-abbrev pub HasSpentTwice : List Named → Line TxRefusal
-HasSpentTwice named = AtFirst (λ k name. Tells (IsSpend name × Contains (take k named) name) (X7 k)) named
+abbrev pub HasSpentTwice : List Named → Cause TxRefusal
+HasSpentTwice named = AtFirst (λ k name. Reports (IsSpend name × Contains (take k named) name) (X7 k)) named
 
 -- the name of a nonce
 abbrev pub IsNonce : Named → Type 0
@@ -81,8 +81,8 @@ IsNonce (Named.Nonce id) = Unit {0}
 IsNonce (Named.Output id) = ⊥
 
 -- X8: an issuance names the nonce of an earlier input; the first
-abbrev pub HasUsedTwice : List Named → Line TxRefusal
-HasUsedTwice named = AtFirst (λ k name. Tells (IsNonce name × Contains (take k named) name) (X8 k)) named
+abbrev pub HasUsedTwice : List Named → Cause TxRefusal
+HasUsedTwice named = AtFirst (λ k name. Reports (IsNonce name × Contains (take k named) name) (X8 k)) named
 
 -- ---- assets
 
@@ -93,8 +93,8 @@ IssuesAnother hash initial (Input.Issue issue) =
 IssuesAnother hash initial (Input.Spend spend) = ⊥
 
 -- X9: the first such issuance
-abbrev pub HasAnotherAsset : Hash → (initial : List ℕ) → Tx → Line TxRefusal
-HasAnotherAsset hash initial tx = AtFirst (λ k input. Tells (IssuesAnother hash initial input) (X9 k)) tx.inputs
+abbrev pub HasAnotherAsset : Hash → (initial : List ℕ) → Tx → Cause TxRefusal
+HasAnotherAsset hash initial tx = AtFirst (λ k input. Reports (IssuesAnother hash initial input) (X9 k)) tx.inputs
 
 -- the asset of an output's value
 abbrev pub asset_out : Output → List ℕ
@@ -126,14 +126,14 @@ abbrev pub AreUnbalanced : ℕ → ℕ → Type 0
 AreUnbalanced into out = (into ≢ out) ⊎ ((2 ^ 63 ≤ into) ⊎ (2 ^ 63 ≤ out))
 
 -- the sums of an asset are so
-abbrev pub IsUnbalanced : Tx → List ℕ → Line TxRefusal
+abbrev pub IsUnbalanced : Tx → List ℕ → Cause TxRefusal
 IsUnbalanced tx asset =
-    Tells
+    Reports
     (AreUnbalanced (sum_in asset tx.inputs) (sum_out asset tx.outputs))
     (X10 asset (sum_in asset tx.inputs) (sum_out asset tx.outputs))
 
 -- X10: the first asset that is unbalanced
-abbrev pub HasUnbalanced : Tx → Line TxRefusal
+abbrev pub HasUnbalanced : Tx → Cause TxRefusal
 HasUnbalanced tx = AtFirst (λ k asset. IsUnbalanced tx asset) (assets tx)
 
 -- ---- what the chain shows
@@ -144,8 +144,8 @@ SpendsNone hash state (Input.Issue issue) = ⊥
 SpendsNone hash state (Input.Spend spend) = Holds state (output_id hash spend.from) spend.from → ⊥
 
 -- X11: the first such spend
-abbrev pub HasSpentNone : Hash → State → Tx → Line TxRefusal
-HasSpentNone hash state tx = AtFirst (λ k input. Tells (SpendsNone hash state input) (X11 k)) tx.inputs
+abbrev pub HasSpentNone : Hash → State → Tx → Cause TxRefusal
+HasSpentNone hash state tx = AtFirst (λ k input. Reports (SpendsNone hash state input) (X11 k)) tx.inputs
 
 -- the name of a nonce that is live
 abbrev pub UsesLive : State → Named → Type 0
@@ -154,8 +154,8 @@ UsesLive state (Named.Nonce id) = IsLive state id
 UsesLive state (Named.Output id) = ⊥
 
 -- X12: a nonce is live; the first
-abbrev pub HasLiveNonce : State → List Named → Line TxRefusal
-HasLiveNonce state named = AtFirst (λ k name. Tells (UsesLive state name) (X12 k)) named
+abbrev pub HasLiveNonce : State → List Named → Cause TxRefusal
+HasLiveNonce state named = AtFirst (λ k name. Reports (UsesLive state name) (X12 k)) named
 
 -- an output under a program
 abbrev pub IsControl : Output → Type 0
@@ -167,35 +167,35 @@ abbrev pub IsTaken : State → List (List ℕ) → ℕ → List ℕ → Type 0
 IsTaken state results k id = HasId state id ⊎ Contains (take k results) id
 
 -- the output at a place is under a program, and its id is taken
-abbrev pub TakesId : Hash → State → Tx → ℕ → Output → Line TxRefusal
+abbrev pub TakesId : Hash → State → Tx → ℕ → Output → Cause TxRefusal
 TakesId hash state tx k output =
     let id = result_id hash (mux_id hash tx) k output in
-    Tells (IsControl output × IsTaken state (result_ids hash tx) k id) (X13 k id)
+    Reports (IsControl output × IsTaken state (result_ids hash tx) k id) (X13 k id)
 
 -- X13: the first such output
-abbrev pub HasTakenId : Hash → State → Tx → Line TxRefusal
+abbrev pub HasTakenId : Hash → State → Tx → Cause TxRefusal
 HasTakenId hash state tx = AtFirst (TakesId hash state tx) tx.outputs
 
 -- ---- programs
 
 -- the program of an input fails in its context, with this kind at this place
-abbrev pub FailsThere : Hash → Check → Tx → ℕ → Input → Line TxRefusal
-FailsThere hash check tx k input told =
-    (kind : Failure) × (at : ℕ) × FailsAt hash check tx k input kind at × (told ≡ X14 k kind at)
+abbrev pub FailsThere : Hash → Check → Tx → ℕ → Input → Cause TxRefusal
+FailsThere hash check tx k input reported =
+    (kind : Failure) × (at : ℕ) × FailsAt hash check tx k input kind at × (reported ≡ X14 k kind at)
 
 -- X14: the first input whose program does not succeed
-abbrev pub HasFailing : Hash → Check → Tx → Line TxRefusal
+abbrev pub HasFailing : Hash → Check → Tx → Cause TxRefusal
 HasFailing hash check tx = AtFirst (FailsThere hash check tx) tx.inputs
 
 -- ---- the table
 
 -- X1 to X4
-abbrev pub time_lines : ℕ → Tx → List (Line TxRefusal)
-time_lines time tx = IsOfAnotherVersion tx ∷ HasNoTime tx ∷ IsEarly time tx ∷ IsLate time tx ∷ []
+abbrev pub time_causes : ℕ → Tx → List (Cause TxRefusal)
+time_causes time tx = IsOfAnotherVersion tx ∷ HasNoTime tx ∷ IsEarly time tx ∷ IsLate time tx ∷ []
 
 -- X5 to X8
-abbrev pub name_lines : Hash → Tx → List (Line TxRefusal)
-name_lines hash tx =
+abbrev pub name_causes : Hash → Tx → List (Cause TxRefusal)
+name_causes hash tx =
     HasEndlessNonce tx
     ∷ IsNotToldApart tx
     ∷ HasSpentTwice (named_by hash tx)
@@ -203,37 +203,37 @@ name_lines hash tx =
     ∷ []
 
 -- X9 and X10
-abbrev pub asset_lines : Hash → (initial : List ℕ) → Tx → List (Line TxRefusal)
-asset_lines hash initial tx = HasAnotherAsset hash initial tx ∷ HasUnbalanced tx ∷ []
+abbrev pub asset_causes : Hash → (initial : List ℕ) → Tx → List (Cause TxRefusal)
+asset_causes hash initial tx = HasAnotherAsset hash initial tx ∷ HasUnbalanced tx ∷ []
 
 -- X11 to X13
-abbrev pub state_lines : Hash → State → Tx → List (Line TxRefusal)
-state_lines hash state tx =
+abbrev pub state_causes : Hash → State → Tx → List (Cause TxRefusal)
+state_causes hash state tx =
     HasSpentNone hash state tx ∷ HasLiveNonce state (named_by hash tx) ∷ HasTakenId hash state tx ∷ []
 
 -- X14
-abbrev pub program_lines : Hash → Check → Tx → List (Line TxRefusal)
-program_lines hash check tx = HasFailing hash check tx ∷ []
+abbrev pub program_causes : Hash → Check → Tx → List (Cause TxRefusal)
+program_causes hash check tx = HasFailing hash check tx ∷ []
 
 -- of a transaction in a block of this time, after what a chain shows
-abbrev pub tx_lines : Hash → Check → State → ℕ → Tx → List (Line TxRefusal)
-tx_lines hash check state time tx =
-    time_lines time tx
-    ++ (name_lines hash tx
-    ++ (asset_lines hash state.initial tx
-    ++ (state_lines hash state tx
-    ++ program_lines hash check tx)))
+abbrev pub tx_causes : Hash → Check → State → ℕ → Tx → List (Cause TxRefusal)
+tx_causes hash check state time tx =
+    time_causes time tx
+    ++ (name_causes hash tx
+    ++ (asset_causes hash state.initial tx
+    ++ (state_causes hash state tx
+    ++ program_causes hash check tx)))
 
--- The first line of the table that holds of a transaction, or none.
-pub record Refusal (hash : Hash) (check : Check) (state : State) (time : ℕ) (tx : Tx) (line : Option TxRefusal)
+-- The first cause of the table that holds of a transaction, or none.
+pub record Refusal (hash : Hash) (check : Check) (state : State) (time : ℕ) (tx : Tx) (cause : Option TxRefusal)
     : Type 0 where
-  pub first : First (tx_lines hash check state time tx) line
+  pub first : First (tx_causes hash check state time tx) cause
 
--- no line holds
+-- no cause holds
 abbrev pub TxValid : Hash → Check → State → ℕ → Tx → Type 0
 TxValid hash check state time tx = Refusal hash check state time tx None
 
--- a fault is the first line that holds; want of memory is free
+-- a fault is the first cause that holds; out of memory is free
 abbrev pub Refuses : Hash → Check → State → ℕ → Tx → TxFault → Type 0
-Refuses hash check state time tx (Refused line) = Refusal hash check state time tx (Some line)
+Refuses hash check state time tx (Refused cause) = Refusal hash check state time tx (Some cause)
 Refuses hash check state time tx NoMemory = Unit {0}

@@ -1,4 +1,4 @@
--- What a transaction has that no line of the table refuses, a fact by a name.
+-- What a transaction has that no cause of the table refuses, a fact by a name.
 use Rattle.std.specs.Prelude.{◌≡◌, ◌≢◌, ◌<◌, ◌≤◌, ◌^◌, ℕ, List, [], take, slice_get, Contains, Some}
 use Rattle.data_model.specs.declared.input.Issue.{Issue}
 use Rattle.data_model.specs.declared.input.Spend.{Spend}
@@ -7,10 +7,10 @@ use Rattle.data_model.specs.declared.output.Output.{Output}
 use Rattle.data_model.specs.declared.output.Control.{Control}
 use Rattle.data_model.specs.declared.tx.Tx.{Tx}
 use Rattle.entry_ids.specs.declared.input.Named.{Named}
-use Rattle.entry_ids.specs.Entry.{Hash}
+use Rattle.keyed.specs.Functions.{Hash}
 use Rattle.entry_ids.specs.Ids.{asset_id, output_id, mux_id, result_id, result_ids}
 use Rattle.vm_run.specs.declared.verdict.Verdict.TheVariants.{Succeeded}
-use Rattle.vm_run.specs.Row.{Check}
+use Rattle.keyed.specs.Functions.{Check}
 use Rattle.tx_check.specs.Contexts.{InputVerdict}
 use Rattle.tx_check.specs.View.{State, HasId, Holds, IsLive}
 use Rattle.tx_check.specs.Table.{TellsApart, named_by, sum_in, sum_out}

@@ -3,8 +3,8 @@ ghost use Rattle.std.specs.Prelude.{◌≡◌, ◌↔◌, ◌⊎◌, ◌≤◌, 
 ghost use Rattle.wire.specs.Tables.{First, HoldsNot};
 ghost use Rattle.tx_check.specs.FirstPlace.{AtFirst, Found};
 ghost use Rattle.tx_check.specs.Parts.{asset_in};
-ghost use Rattle.tx_check.specs.Table.{IssuesAnother, HasAnotherAsset, asset_out, amount_out};
-ghost use Rattle.tx_check.specs.Table.{sum_in, sum_out, IsUnbalanced, HasUnbalanced, asset_lines};
+ghost use Rattle.tx_check.specs.Table.{IssuesAnother, HasAnotherAsset, asset_out, amount_out, sum_in, sum_out};
+ghost use Rattle.tx_check.specs.Table.{IsUnbalanced, HasUnbalanced, asset_causes};
 
 use crate::TxRefusal;
 use crate::parts::{amount_in, asset_in};
@@ -15,16 +15,16 @@ use std::alloc::Global;
 use wire::{Id, NoMemory};
 
 // The first of X9 and X10 that holds on a chain with this initial block.
-pub(crate) fn of_assets<H: IdHash>(
+pub(crate) fn asset_refusal<H: IdHash>(
     alloc: Global,
     hash: &H,
     initial_id: &Id,
     tx: &Tx,
 ) -> Result<Option<TxRefusal>, NoMemory>
-    ensures { IfOk result (First (asset_lines (H.hash_of hash.now) initial_id.now tx.now)) }
+    ensures { IfOk result (First (asset_causes (H.hash_of hash.now) initial_id.now tx.now)) }
 {
-    if let Some(line) = another_asset(alloc, hash, initial_id, tx)? {
-        return Ok(Some(line));
+    if let Some(cause) = another_asset(alloc, hash, initial_id, tx)? {
+        return Ok(Some(cause));
     }
     Ok(unbalanced(tx))
 }
@@ -71,8 +71,8 @@ fn issues_another<H: IdHash>(
 fn unbalanced(tx: &Tx) -> Option<TxRefusal>
     ensures { Found (HasUnbalanced tx.now) result }
 {
-    if let Some(line) = unbalanced_in(tx) {
-        return Some(line);
+    if let Some(cause) = unbalanced_in(tx) {
+        return Some(cause);
     }
     unbalanced_out(tx)
 }
@@ -87,8 +87,8 @@ fn unbalanced_in(tx: &Tx) -> Option<TxRefusal>
         if appears_in(&inputs[..k], asset) {
             continue;
         }
-        if let Some(line) = sums_of(asset, tx) {
-            return Some(line);
+        if let Some(cause) = sums_of(asset, tx) {
+            return Some(cause);
         }
     }
     None
@@ -105,8 +105,8 @@ fn unbalanced_out(tx: &Tx) -> Option<TxRefusal>
         if appears(tx, k, asset) {
             continue;
         }
-        if let Some(line) = sums_of(asset, tx) {
-            return Some(line);
+        if let Some(cause) = sums_of(asset, tx) {
+            return Some(cause);
         }
     }
     None
@@ -121,7 +121,7 @@ fn appears(tx: &Tx, k: usize, asset: &Id) -> bool
     appears_in(tx.inputs.as_slice(), asset) || appears_out(&tx.outputs.as_slice()[..k], asset)
 }
 
-// What X10 tells of an asset.
+// What X10 reports of an asset.
 fn sums_of(asset: &Id, tx: &Tx) -> Option<TxRefusal>
     ensures { Found (IsUnbalanced tx.now asset.now) result }
 {

@@ -6,11 +6,11 @@ ghost use Rattle.entry_ids.specs.Ids.{AreIds};
 ghost use Rattle.tx_check.specs.FirstPlace.{Found};
 ghost use Rattle.tx_check.specs.Table.{HasFailing, Refusal, Refuses, TxValid};
 
-use crate::assets::of_assets;
-use crate::names::of_names;
+use crate::assets::asset_refusal;
+use crate::names::name_refusal;
 use crate::programs::first_failing;
-use crate::shown::of_view;
-use crate::times::of_times;
+use crate::shown::state_refusal;
+use crate::times::time_refusal;
 use crate::{TxFault, TxRefusal, View};
 use data_model::Tx;
 use entry_ids::{TxIds, tx_ids};
@@ -57,14 +57,14 @@ pub fn check_with_ids<V: View, H: IdHash, C: SigCheck>(
     ensures refused { IfErr result
         (Refuses (H.hash_of hash.now) (C.good_of sigs.now) (V.state_of view.now) time tx.now) }
 {
-    match first_line(alloc, view, hash, sigs, time, tx, ids)? {
-        Some(line) => Err(TxFault::Refused(line)),
+    match first_cause(alloc, view, hash, sigs, time, tx, ids)? {
+        Some(cause) => Err(TxFault::Refused(cause)),
         None => Ok(()),
     }
 }
 
-// The first line of the table that holds.
-fn first_line<V: View, H: IdHash, C: SigCheck>(
+// The first cause of the table that holds.
+fn first_cause<V: View, H: IdHash, C: SigCheck>(
     alloc: Global,
     view: &V,
     hash: &H,
@@ -78,23 +78,23 @@ fn first_line<V: View, H: IdHash, C: SigCheck>(
     ensures { IfOk result
         (Refusal (H.hash_of hash.now) (C.good_of sigs.now) (V.state_of view.now) time tx.now) }
 {
-    if let Some(line) = of_times(time, tx) {
-        return Ok(Some(line));
+    if let Some(cause) = time_refusal(time, tx) {
+        return Ok(Some(cause));
     }
-    if let Some(line) = of_names(tx, ids.named.as_slice()) {
-        return Ok(Some(line));
+    if let Some(cause) = name_refusal(tx, ids.named.as_slice()) {
+        return Ok(Some(cause));
     }
-    if let Some(line) = of_assets(alloc, hash, &view.initial(), tx)? {
-        return Ok(Some(line));
+    if let Some(cause) = asset_refusal(alloc, hash, &view.initial(), tx)? {
+        return Ok(Some(cause));
     }
-    if let Some(line) = of_view(view, tx, ids) {
-        return Ok(Some(line));
+    if let Some(cause) = state_refusal(view, tx, ids) {
+        return Ok(Some(cause));
     }
-    of_programs(alloc, hash, sigs, tx, ids)
+    program_refusal(alloc, hash, sigs, tx, ids)
 }
 
 // X14.
-fn of_programs<H: IdHash, C: SigCheck>(
+fn program_refusal<H: IdHash, C: SigCheck>(
     alloc: Global,
     hash: &H,
     sigs: &C,

@@ -2,7 +2,7 @@
 ghost use Rattle.std.specs.Prelude.{◌≡◌, ◌<◌, ◌^◌, List, map, length, slice_get, Some, Option, IfOk};
 ghost use Rattle.data_model.specs.Transaction.{IsTx};
 ghost use Rattle.data_model.specs.declared.input.Input.{Input};
-ghost use Rattle.entry_ids.specs.Entry.{Hash};
+ghost use Rattle.keyed.specs.Functions.{Hash};
 ghost use Rattle.entry_ids.specs.Ids.{AreIds, input_data, input_id};
 ghost use Rattle.vm_run.specs.Row.{NumbersFit};
 ghost use Rattle.tx_check.specs.Parts.{named_output, spent_id};
@@ -14,13 +14,10 @@ use entry_ids::{Named, TxIds, sig_hash, tx_ids};
 use keyed::IdHash;
 use std::alloc::Global;
 use vm_run::{Context, NoMemory, OutSeen, Outs, TxContext};
-use wire::{Bytes, Id};
-
-// The greatest time that there is.
-const GREATEST_TIME: u64 = (1 << 63) - 1;
+use wire::{Bytes, Id, MAX_NUMBER};
 
 /// What the program of the k-th input may ask for, counted from 0: the input's value and program, the times of the
-/// transaction, hashes of data, ids, and all outputs in order. A transaction with no greatest time is told to have
+/// transaction, hashes of data, ids, and all outputs in order. A transaction with no greatest time is seen with
 /// 2^63 - 1.
 pub fn context_of<H: IdHash>(alloc: Global, hash: &H, tx: &Tx, k: u64) -> Result<Context, NoMemory>
     requires tx { IsTx tx.now }
@@ -165,5 +162,5 @@ fn named_output(named: &Named) -> Option<Id>
 fn last_time(maxtime: u64) -> u64
     ensures { result ≡ last_time maxtime }
 {
-    if maxtime == 0 { GREATEST_TIME } else { maxtime }
+    if maxtime == 0 { MAX_NUMBER } else { maxtime }
 }

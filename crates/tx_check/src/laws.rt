@@ -1,8 +1,7 @@
 //! Laws of the definitions, each the contract of a function with nothing to do.
 ghost use Rattle.std.specs.Prelude.{◌↔◌, ℕ};
 ghost use Rattle.data_model.specs.declared.tx.Tx.{Tx};
-ghost use Rattle.entry_ids.specs.Entry.{Hash};
-ghost use Rattle.vm_run.specs.Row.{Check};
+ghost use Rattle.keyed.specs.Functions.{Hash, Check};
 ghost use Rattle.tx_check.specs.View.{State};
 ghost use Rattle.tx_check.specs.Table.{TxValid};
 ghost use Rattle.tx_check.specs.Valid.{Valid};

@@ -1,5 +1,5 @@
-//! Which transactions a block may hold after what a chain shows: the table of refusals, of which the first line that
-//! holds is told; and what the program of an input may ask for.
+//! Which transactions a block may hold after what a chain shows: the table of refusals, of which the first cause that
+//! holds is reported; and what the program of an input may ask for.
 #![tactic(auto)]
 
 mod assets;

@@ -1,27 +1,27 @@
-//! X5 to X8: what tells a transaction from all others.
+//! X5 to X8: what sets a transaction apart from all others.
 ghost use Rattle.std.specs.Prelude.{◌≡◌, ◌↔◌, IsTrue, Contains};
 ghost use Rattle.wire.specs.Tables.{First};
-ghost use Rattle.entry_ids.specs.Entry.{Hash};
+ghost use Rattle.keyed.specs.Functions.{Hash};
 ghost use Rattle.tx_check.specs.FirstPlace.{Found};
-ghost use Rattle.tx_check.specs.Table.{UsesNonce, TellsApart, HasEndlessNonce, IsNotToldApart};
-ghost use Rattle.tx_check.specs.Table.{named_by, IsSpend, IsNonce, HasSpentTwice, HasUsedTwice, name_lines};
+ghost use Rattle.tx_check.specs.Table.{UsesNonce, TellsApart, HasEndlessNonce, IsNotToldApart, named_by, IsSpend};
+ghost use Rattle.tx_check.specs.Table.{IsNonce, HasSpentTwice, HasUsedTwice, name_causes};
 
 use crate::TxRefusal;
 use data_model::{Input, Tx};
 use entry_ids::Named;
 
 // The first of X5 to X8 that holds, by what the inputs name.
-pub(crate) fn of_names(tx: &Tx, named: &[Named]) -> Option<TxRefusal>
-    ensures { (hash : Hash) → named.now ≡ named_by hash tx.now → First (name_lines hash tx.now) result }
+pub(crate) fn name_refusal(tx: &Tx, named: &[Named]) -> Option<TxRefusal>
+    ensures { (hash : Hash) → named.now ≡ named_by hash tx.now → First (name_causes hash tx.now) result }
 {
-    if let Some(line) = endless_nonce(tx) {
-        return Some(line);
+    if let Some(cause) = endless_nonce(tx) {
+        return Some(cause);
     }
-    if let Some(line) = not_told_apart(tx) {
-        return Some(line);
+    if let Some(cause) = not_set_apart(tx) {
+        return Some(cause);
     }
-    if let Some(line) = spent_twice(named) {
-        return Some(line);
+    if let Some(cause) = spent_twice(named) {
+        return Some(cause);
     }
     used_twice(named)
 }
@@ -50,12 +50,12 @@ fn is_endless(maxtime: u64, input: &Input) -> bool
 }
 
 // X6.
-fn not_told_apart(tx: &Tx) -> Option<TxRefusal>
+fn not_set_apart(tx: &Tx) -> Option<TxRefusal>
     ensures { Found (IsNotToldApart tx.now) result }
 {
     let inputs = tx.inputs.as_slice();
     for input in inputs {
-        if tells_apart(input) {
+        if sets_apart(input) {
             return None;
         }
     }
@@ -63,7 +63,7 @@ fn not_told_apart(tx: &Tx) -> Option<TxRefusal>
 }
 
 // A spend, or an issuance with a nonce.
-fn tells_apart(input: &Input) -> bool
+fn sets_apart(input: &Input) -> bool
     ensures { IsTrue result ↔ TellsApart input.now }
 {
     match input {

@@ -1,3 +1,4 @@
+//! Why a transaction is not valid.
 ghost use Rattle.std.specs.Prelude.{◌≡◌};
 ghost use Rattle.tx_check.specs.declared.refusal.TxFault.TheVariants as faults;
 
@@ -46,7 +47,7 @@ pub enum TxRefusal {
         input: u64,
     },
     /// The units of an asset that the inputs bring and those that the outputs take differ, or reach 2^63. Of several
-    /// assets the one that appears first is told, in the inputs and then in the outputs.
+    /// assets the one that appears first is reported, in the inputs and then in the outputs.
     X10 {
         asset: Id,
         sum_in: u128,
@@ -80,7 +81,7 @@ pub enum TxRefusal {
 pub enum TxFault {
     /// It is refused.
     Refused(TxRefusal),
-    /// Memory was wanted and not found.
+    /// Out of memory.
     NoMemory,
 }
 

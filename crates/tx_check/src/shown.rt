@@ -2,12 +2,12 @@
 ghost use Rattle.std.specs.Prelude.{◌≡◌, ◌↔◌, ◌⊎◌, IsTrue, Contains, length};
 ghost use Rattle.data_model.specs.declared.tx.Tx.{Tx};
 ghost use Rattle.wire.specs.Tables.{First};
-ghost use Rattle.entry_ids.specs.Entry.{Hash};
+ghost use Rattle.keyed.specs.Functions.{Hash};
 ghost use Rattle.entry_ids.specs.Ids.{AreIds, names, result_ids};
 ghost use Rattle.tx_check.specs.View.{HasId};
 ghost use Rattle.tx_check.specs.FirstPlace.{Found};
 ghost use Rattle.tx_check.specs.Table.{named_by, SpendsNone, HasSpentNone, UsesLive, HasLiveNonce, IsControl};
-ghost use Rattle.tx_check.specs.Table.{IsTaken, HasTakenId, state_lines};
+ghost use Rattle.tx_check.specs.Table.{IsTaken, HasTakenId, state_causes};
 
 use crate::{TxRefusal, View};
 use data_model::{Input, Output, Tx};
@@ -15,18 +15,18 @@ use entry_ids::{Named, TxIds};
 use wire::Id;
 
 // The first of X11 to X13 that holds, by the ids of the transaction.
-pub(crate) fn of_view<V: View>(view: &V, tx: &Tx, ids: &TxIds) -> Option<TxRefusal>
+pub(crate) fn state_refusal<V: View>(view: &V, tx: &Tx, ids: &TxIds) -> Option<TxRefusal>
     requires named { length ids.now.named ≡ length tx.now.inputs }
     requires results { length ids.now.results ≡ length tx.now.outputs }
     ensures { (hash : Hash) → AreIds hash tx.now ids.now
-        → First (state_lines hash (V.state_of view.now) tx.now) result }
+        → First (state_causes hash (V.state_of view.now) tx.now) result }
 {
     let named = ids.named.as_slice();
-    if let Some(line) = spent_none(view, tx, named) {
-        return Some(line);
+    if let Some(cause) = spent_none(view, tx, named) {
+        return Some(cause);
     }
-    if let Some(line) = live_nonce(view, named) {
-        return Some(line);
+    if let Some(cause) = live_nonce(view, named) {
+        return Some(cause);
     }
     taken_id(view, tx, ids.results.as_slice())
 }
@@ -104,19 +104,7 @@ fn takes_id<V: View>(view: &V, output: &Output, earlier: &[Id], id: &Id) -> bool
         × (HasId (V.state_of view.now) id.now ⊎ Contains earlier.now id.now)) }
 {
     match output {
-        Output::Control(_) => view.has_id(id) || is_among(earlier, id),
+        Output::Control(_) => view.has_id(id) || earlier.contains(id),
         Output::Retire(_) => false,
     }
-}
-
-// This id is among these.
-fn is_among(ids: &[Id], id: &Id) -> bool
-    ensures { IsTrue result ↔ Contains ids.now id.now }
-{
-    for other in ids {
-        if other == id {
-            return true;
-        }
-    }
-    false
 }

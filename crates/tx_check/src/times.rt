@@ -1,14 +1,14 @@
 //! X1 to X4: the version and the times.
 ghost use Rattle.std.specs.Prelude.{◌↔◌, ◌≢◌, ◌<◌, IsTrue};
 ghost use Rattle.wire.specs.Tables.{First};
-ghost use Rattle.tx_check.specs.Table.{time_lines};
+ghost use Rattle.tx_check.specs.Table.{time_causes};
 
 use crate::TxRefusal;
 use data_model::Tx;
 
 // The first of X1 to X4 that holds in a block of this time.
-pub(crate) fn of_times(time: u64, tx: &Tx) -> Option<TxRefusal>
-    ensures { First (time_lines time tx.now) result }
+pub(crate) fn time_refusal(time: u64, tx: &Tx) -> Option<TxRefusal>
+    ensures { First (time_causes time tx.now) result }
 {
     let mintime = tx.mintime;
     let maxtime = tx.maxtime;

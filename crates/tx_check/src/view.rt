@@ -1,3 +1,4 @@
+//! What a check of a transaction sees of the ledger.
 ghost use Rattle.std.specs.Prelude.{◌≡◌, ◌↔◌, IsTrue};
 ghost use Rattle.tx_check.specs.View.{State, HasId, Holds, IsLive};
 

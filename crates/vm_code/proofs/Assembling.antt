@@ -44,7 +44,7 @@ split_span : (b : ℕ) (text : List ℕ) (t : Bool) → sum_by span (parts text)
 split_span b text true more = omega (arith, sum_by-cons span [] (parts text))
 split_span b text false more = omega (arith, onto_span b (parts text) (omega (arith, length-slice_split (λ c. c == 32) text)))
 
--- the words and a space behind each are as long as the text and one space
+-- the words and a space after each are as long as the text and one space
 parts_span : (text : List ℕ) → sum_by span (parts text) ≡ length text + 1
 parts_span [] = refl
 parts_span (b ∷ text) = split_span b text (b == 32) (parts_span text)

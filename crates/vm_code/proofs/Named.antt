@@ -7,7 +7,8 @@ use Rattle.std.proofs.lemmas.Slice.Eq.{bytes_eq-Decides}
 use Rattle.vm_code.specs.Instruction.{is_plain, is_data, is_jump}
 use Rattle.vm_code.specs.Names.{names, name_of, code_of}
 use Rattle.vm_code.specs.Text.{is_counted}
-use Rattle.vm_code.specs.Word.{behind_0x, is_empty}
+use Rattle.vm_code.specs.Word.{rest_after_0x}
+use Rattle.wire.specs.Decimal.{is_empty}
 use Rattle.vm_code.proofs.Shapes.{plain_small}
 
 -- a text without this byte
@@ -19,9 +20,9 @@ is_code c None = false
 is_code c (Some k) = k == c
 
 abbrev name_good : ℕ → List ℕ → Bool
-name_good c name = is_code c (code_of name) && (free 58 name && (free 32 name && (is_none (behind_0x name) && not (is_empty name))))
+name_good c name = is_code c (code_of name) && (free 58 name && (free 32 name && (is_none (rest_after_0x name) && not (is_empty name))))
 
--- plain, a jump, or with its count behind it
+-- plain, a jump, or with its count after it
 abbrev pub has_name : ℕ → Bool
 has_name c = is_plain c || is_jump c || is_counted c
 
@@ -45,7 +46,7 @@ pub record Plain (c : ℕ) : Type 0 where
   pub code : code_of (name_of c) ≡ Some c
   pub no_colon : free 58 (name_of c) ≡ true
   pub no_space : free 32 (name_of c) ≡ true
-  pub no_0x : behind_0x (name_of c) ≡ None
+  pub no_0x : rest_after_0x (name_of c) ≡ None
   pub some : is_empty (name_of c) ≡ false
   pub no_data : is_data c ≡ false
   pub no_count : is_counted c ≡ false
@@ -67,14 +68,14 @@ plain_named c is =
     let a = and_parts (is_code c (code_of (name_of c))) _ both.0 in
     let b = and_parts (free 58 (name_of c)) _ a.1 in
     let e = and_parts (free 32 (name_of c)) _ b.1 in
-    let f = and_parts (is_none (behind_0x (name_of c))) _ e.1 in
+    let f = and_parts (is_none (rest_after_0x (name_of c))) _ e.1 in
     let g = and_parts (not (is_data c)) _ both.1 in
     let h = and_parts (not (is_counted c)) _ g.1 in
     record {
       code = code_from c (code_of (name_of c)) a.0;
       no_colon = b.0;
       no_space = e.0;
-      no_0x = none_from (behind_0x (name_of c)) f.0;
+      no_0x = none_from (rest_after_0x (name_of c)) f.0;
       some = not-true (is_empty (name_of c)) f.1;
       no_data = not-true (is_data c) g.0;
       no_count = not-true (is_counted c) h.0;

@@ -10,7 +10,7 @@ use Rattle.vm_code.specs.Text.{bytes_of, IsInstruction}
 use Rattle.vm_code.proofs.Hexes.{is_bytes_nil, is_bytes_cons, is_bytes_tail}
 use Rattle.vm_code.proofs.Shapes.{pushing, jumping, Kind, by_length, counted_1, counted_2, counted_4, jump, alone, Field, read_1, read_2, read_4, bytes_by_length, bytes_1, bytes_2, bytes_4, bytes_jump, bytes_alone}
 
--- a code and the bytes behind it are the bytes of an instruction and more
+-- a code and the bytes after it are the bytes of an instruction and more
 pub record Split (bytes : List ℕ) (d : Decoded) : Type 0 where
   pub rest : List ℕ
   pub whole : bytes ≡ bytes_of d ++ rest
@@ -34,7 +34,7 @@ fits false x d h = cc
 
 -- ---- data
 
--- the count's bytes, and what stands behind them
+-- the count's bytes, and what stands after them
 data_parts : (field count : ℕ) (b : List ℕ) → take field b ++ (take count (drop field b) ++ drop count (drop field b)) ≡ b
 data_parts field count b = ap (λ l. take field b ++ l) (take-append-drop count (drop field b)) ∙ take-append-drop field b
 

@@ -10,10 +10,13 @@ use Rattle.hex.specs.Hex.{encode_lower, IsBytes}
 use Rattle.vm_code.specs.Instruction.{Decoded, plain, is_data, is_jump, is_plain}
 use Rattle.vm_code.specs.Names.{names, name_of, code_of}
 use Rattle.vm_code.specs.Text.{field_len, text_of, is_counted, IsInstruction}
-use Rattle.vm_code.specs.Word.{word_read, parts_read, with_argument, without_argument, named, behind_0x, at_colon, data_of, counted, hex_read, place_read, is_lower_digit, is_empty}
+use Rattle.vm_code.specs.Word.{word_read, parts_read, with_argument, without_argument, named, rest_after_0x, at_colon}
+use Rattle.vm_code.specs.Word.{data_of, counted, hex_read, place_read, is_lower_digit}
+use Rattle.wire.specs.Decimal.{is_empty}
 use Rattle.vm_code.specs.Word as word
 use Rattle.vm_code.proofs.Hexes.{hex_written, hex_back, lower_written}
-use Rattle.vm_code.proofs.Decimals.{place_written, place_back, digits_written}
+use Rattle.wire.specs.Decimal.{digits_written}
+use Rattle.vm_code.proofs.Decimals.{place_written, place_back}
 use Rattle.vm_code.proofs.Shapes.{pushing, jumping, Kind, by_length, counted_1, counted_2, counted_4, jump, alone, jump_cases}
 use Rattle.vm_code.proofs.Splits.{kind_of}
 use Rattle.vm_code.proofs.Again.{is_instruction, is_bytes_pushed}
@@ -60,7 +63,7 @@ no_colon (b ∷ text) is =
     let both = and_parts (not (b == 58)) (free 58 text) is in
     rw (not-true (b == 58) both.0) (rw (no_colon text both.1) refl)
 
--- a text with a colon is what stands before it, the colon, and what stands behind it
+-- a text with a colon is what stands before it, the colon, and what stands after it
 same_parts : (p q : List ℕ × List ℕ) → Some p ≡ Some q → (p.0 ≡ q.0) × (p.1 ≡ q.1)
 same_parts p q h = let same : p ≡ q = cc in (ap (λ x. x.0) same, ap (λ x. x.1) same)
 
@@ -81,7 +84,7 @@ joined : (text front behind : List ℕ) → at_colon text ≡ Some (front, behin
 joined [] front behind h = cc
 joined (b ∷ text) front behind h = joined_at b text front behind (b == 58) (at_colon text) refl (λ f h e. joined text f h e) h
 
--- what stands behind a `0x`
+-- what stands after a `0x`
 after_0x_at : (b c : ℕ) (rest digits : List ℕ) (t : Bool) → (b == 48 && c == 120) ≡ t → cond t (Some rest) None ≡ Some digits → b ∷ c ∷ rest ≡ codes "0x" ++ digits
 after_0x_at b c rest digits true is h =
     let both = and_parts (b == 48) (c == 120) is in
@@ -89,7 +92,7 @@ after_0x_at b c rest digits true is h =
     rw (eqb-true b 48 both.0) (rw (eqb-true c 120 both.1) (ap (λ l. 48 ∷ 120 ∷ l) same))
 after_0x_at b c rest digits false is h = cc
 
-after_0x : (text digits : List ℕ) → behind_0x text ≡ Some digits → text ≡ codes "0x" ++ digits
+after_0x : (text digits : List ℕ) → rest_after_0x text ≡ Some digits → text ≡ codes "0x" ++ digits
 after_0x [] digits h = cc
 after_0x (b ∷ []) digits h = cc
 after_0x (b ∷ c ∷ rest) digits h = after_0x_at b c rest digits (b == 48 && c == 120) refl h
@@ -160,12 +163,12 @@ argument_reads text name digits d (Some c) is code h =
       ]
     ]
 
-without_reads : (text : List ℕ) (d : Decoded) (o : Option (List ℕ)) → behind_0x text ≡ o → without_argument o text ≡ Some d → Reads text d
+without_reads : (text : List ℕ) (d : Decoded) (o : Option (List ℕ)) → rest_after_0x text ≡ o → without_argument o text ≡ Some d → Reads text d
 without_reads text d None is h = named_reads text d (code_of text) refl h
 without_reads text d (Some digits) is h = data_reads text digits d (hex_read digits) (after_0x text digits is) refl h
 
 parts_reads : (text : List ℕ) (d : Decoded) (o : Option (List ℕ × List ℕ)) → at_colon text ≡ o → parts_read o text ≡ Some d → Reads text d
-parts_reads text d None is h = without_reads text d (behind_0x text) refl h
+parts_reads text d None is h = without_reads text d (rest_after_0x text) refl h
 parts_reads text d (Some parts) is h = argument_reads text parts.0 parts.1 d (code_of parts.0) (joined text parts.0 parts.1 is) refl h
 
 pub word_reads : (text : List ℕ) (d : Decoded) → word_read text ≡ Some d → Reads text d
@@ -184,7 +187,7 @@ pub hex_free : (x : ℕ) (p : List ℕ) → is_lower_digit x ≡ false → IsByt
 hex_free x p apart all = kept x is_lower_digit (encode_lower p) (λ c is. not_from_false (c == x) (ne_eqb c x (λ e. let other : is_lower_digit x ≡ true = subst (λ (c : ℕ). is_lower_digit c ≡ true) e is in cc))) (lower_written p all)
 
 pub decimal_free : (x n : ℕ) → is_ascii_digit x ≡ false → n < 2 ^ 32 → free x (decimal n) ≡ true
-decimal_free x n apart small = kept x is_ascii_digit (decimal n) (λ c is. not_from_false (c == x) (ne_eqb c x (λ e. let other : is_ascii_digit x ≡ true = subst (λ (c : ℕ). is_ascii_digit c ≡ true) e is in cc))) (digits_written n small)
+decimal_free x n apart small = kept x is_ascii_digit (decimal n) (λ c is. not_from_false (c == x) (ne_eqb c x (λ e. let other : is_ascii_digit x ≡ true = subst (λ (c : ℕ). is_ascii_digit c ≡ true) e is in cc))) (digits_written n (omega (arith, small)))
 
 back_data : (p : List ℕ) → 0 < length p → length p ≤ 75 → IsBytes p → word_read (codes "0x" ++ encode_lower p) ≡ Some (pushing (length p) p 0)
 unfolding word_read

@@ -15,7 +15,7 @@ pub record IsAssembly (text program : List ℕ) : Type 0 where
   pub text_is : text ≡ join_with_byte 32 (map text_of instructions)
   pub program_is : program ≡ flat_map bytes_of instructions
 
--- a program whose first instructions stand whole, and behind them none does, for this reason
+-- a program whose first instructions stand whole, and after them none does, for this reason
 pub record FirstMisread (program : List ℕ) (kind : Misread) : Type 0 where
   pub instructions : List Decoded
   pub each : AllByRecursion IsInstruction instructions
@@ -24,7 +24,7 @@ pub record FirstMisread (program : List ℕ) (kind : Misread) : Type 0 where
   pub some : 0 < length rest
   pub misread : instruction_at rest 0 ≡ Err kind
 
--- want of memory is free
+-- out of memory is free
 abbrev pub IsMisread : List ℕ → CodeFault → Type 0
 IsMisread program faults.Short = FirstMisread program Short
 IsMisread program faults.BadOpcode = FirstMisread program BadOpcode
@@ -39,7 +39,7 @@ words (b ∷ bs) = slice_split (λ c. c == 32) (b ∷ bs)
 abbrev pub IsWord : List ℕ → Type 0
 IsWord word = (d : Decoded) × IsInstruction d × (word ≡ text_of d)
 
--- the first word of a text that is none begins at this byte: behind the words before it, each with its space
+-- the first word of a text that is none begins at this byte: after the words before it, each with its space
 pub record FirstBadWord (text : List ℕ) (at : ℕ) : Type 0 where
   pub before : List (List ℕ)
   pub word : List ℕ

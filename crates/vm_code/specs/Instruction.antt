@@ -23,7 +23,7 @@ little_endian (b ∷ bs) = b + 256 * little_endian bs
 abbrev pub is_within : ℕ → ℕ → ℕ → Bool
 is_within from to code = nat_le from code && nat_le code to
 
--- The codes with nothing behind them: FALSE; 1NEGATE; 1 to 16 and NOP; VERIFY to CATPUSHDATA; 1ADD to WITHIN; SHA256;
+-- The codes with nothing after them: FALSE; 1NEGATE; 1 to 16 and NOP; VERIFY to CATPUSHDATA; 1ADD to WITHIN; SHA256;
 -- CHECKSIG to BLOCKHASH; CHECKPREDICATE to OUTPUTID; NEXTPROGRAM and BLOCKTIME.
 abbrev pub is_plain : ℕ → Bool
 is_plain code =
@@ -41,7 +41,7 @@ is_data code = is_within 0x01 0x4b code
 abbrev pub plain : ℕ → Decoded
 plain code = record { code = code; pushed = []; target = 0; len = 1 }
 
--- count data bytes behind the code and its field of a length
+-- count data bytes after the code and its field of a length
 abbrev pub data_at : ℕ → ℕ → ℕ → List ℕ → Result Decoded Misread
 data_at code field count behind =
     if nat_le (field + count) (length behind)
@@ -60,7 +60,7 @@ jump_at code behind =
     then Ok (record { code = code; pushed = []; target = little_endian (take 4 behind); len = 5 })
     else Err Short
 
--- A code and the bytes behind it. PUSHDATA1, PUSHDATA2 and PUSHDATA4 are 4c, 4d and 4e.
+-- A code and the bytes after it. PUSHDATA1, PUSHDATA2 and PUSHDATA4 are 4c, 4d and 4e.
 abbrev pub decoded : ℕ → List ℕ → Result Decoded Misread
 decoded code behind =
     if is_data code then data_at code 0 code behind

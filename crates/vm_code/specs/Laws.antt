@@ -15,7 +15,7 @@ pub record ReadingLaws : Type 0 where
   pub begun : (program behind : List ℕ) (place : ℕ) (d : Decoded)
       → instruction_at program place ≡ Ok d
       → instruction_at (program ++ behind) place ≡ Ok d
-  -- behind a front the same is read, as much further on; a fault too
+  -- after a front the same is read, as much further on; a fault too
   pub fronted : (front program : List ℕ) (place : ℕ)
       → instruction_at (front ++ program) (length front + place) ≡ instruction_at program place
 
@@ -32,7 +32,7 @@ pub record InstructionLaws : Type 0 where
       → instruction_at (front ++ bytes_of d ++ behind) (length front) ≡ Ok d
   -- no two have the same text
   pub one_text : (d e : Decoded) → IsInstruction d → IsInstruction e → text_of d ≡ text_of e → d ≡ e
-  -- the table names the codes that are plain, jump, or have their count behind them, and no others
+  -- the table names the codes that are plain, jump, or have their count after them, and no others
   pub named : (code : ℕ)
       → (is_plain code || is_jump code || is_counted code) ≡ true
       → code_of (name_of code) ≡ Some code

@@ -8,7 +8,7 @@ use Rattle.vm_code.specs.Instruction.{Decoded, Misread, Short, BadOpcode}
 abbrev pub seen : Instruction → Decoded
 seen i = record { code = i.code; pushed = i.pushed.now; target = i.target; len = i.len }
 
--- what was answered is what the definition says; want of memory is never answered
+-- what was answered is what the definition says; out of memory is never answered
 abbrev pub Reads : Result Instruction CodeFault → Result Decoded Misread → Type 0
 Reads (Ok i) answer = answer ≡ Ok (seen i)
 Reads (Err faults.Short) answer = answer ≡ Err Short

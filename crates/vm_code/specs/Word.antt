@@ -1,13 +1,12 @@
 -- How the assembler reads a word. It stands between the contracts of the assembler's parts and what `assemble` says of
 -- texts, which does not name it: that it reads exactly the texts of instructions is proved.
-use Rattle.std.specs.Prelude.{ℕ, ◌+◌, ◌^◌, ◌==◌, ◌&&◌, ◌||◌, Bool, true, false, List, [], ◌∷◌, length, Option, Some}
+use Rattle.std.specs.Prelude.{ℕ, ◌+◌, ◌-◌, ◌^◌, ◌==◌, ◌&&◌, ◌||◌, Bool, List, [], ◌∷◌, length, Option, Some}
 use Rattle.std.specs.Prelude.{None, if◌then◌else◌, nat_lt, option_map}
 use Rattle.std.specs.List.{list_all}
 use Rattle.std.specs.Option.{option_and_then}
 use Rattle.std.specs.Result.{result_ok}
-use Rattle.std.specs.Char.{is_ascii_digit}
-use Rattle.std.specs.Str.Parse.{digits_value}
 use Rattle.hex.specs.Hex.{decode_of}
+use Rattle.wire.specs.Decimal.{decimal_within}
 use Rattle.vm_code.specs.Instruction.{Decoded, is_within, is_data, is_jump, is_plain, plain}
 use Rattle.vm_code.specs.Names.{code_of}
 use Rattle.vm_code.specs.Text.{is_counted, field_len}
@@ -20,19 +19,9 @@ is_lower_digit c = is_within 48 57 c || is_within 97 102 c
 unfoldable pub hex_read : List ℕ → Option (List ℕ)
 hex_read digits = if list_all is_lower_digit digits then result_ok (decode_of digits) else None
 
-abbrev pub is_empty : List ℕ → Bool
-is_empty [] = true
-is_empty (x ∷ xs) = false
-
--- `0`, or digits that begin with 1 to 9
-abbrev pub is_decimal : List ℕ → Bool
-is_decimal [] = false
-is_decimal (d ∷ ds) = ((d == 48) && is_empty ds) || (is_within 49 57 d && list_all is_ascii_digit ds)
-
 -- the place that a decimal number below 2^32 says
-unfoldable pub place_read : List ℕ → Option ℕ
-place_read digits =
-    if is_decimal digits && nat_lt (digits_value 10 digits) (2 ^ 32) then Some (digits_value 10 digits) else None
+abbrev pub place_read : List ℕ → Option ℕ
+place_read digits = decimal_within (2 ^ 32 - 1) digits
 
 -- so many bytes or less under a code that counts them
 abbrev pub counted : ℕ → List ℕ → Option Decoded
@@ -64,24 +53,24 @@ abbrev pub named : Option ℕ → Option Decoded
 named None = None
 named (Some code) = if is_plain code then Some (plain code) else None
 
--- what stands behind `0x`
-abbrev pub behind_0x : List ℕ → Option (List ℕ)
-behind_0x [] = None
-behind_0x (b ∷ []) = None
-behind_0x (b ∷ c ∷ digits) = if b == 48 && c == 120 then Some digits else None
+-- what stands after `0x`
+abbrev pub rest_after_0x : List ℕ → Option (List ℕ)
+rest_after_0x [] = None
+rest_after_0x (b ∷ []) = None
+rest_after_0x (b ∷ c ∷ digits) = if b == 48 && c == 120 then Some digits else None
 
 abbrev pub without_argument : Option (List ℕ) → List ℕ → Option Decoded
 without_argument None word = named (code_of word)
 without_argument (Some digits) word = option_and_then data_of (hex_read digits)
 
--- what stands before the first colon and behind it
+-- what stands before the first colon and after it
 abbrev pub at_colon : List ℕ → Option (List ℕ × List ℕ)
 at_colon [] = None
 at_colon (b ∷ bs) =
     if b == 58 then Some ([], bs) else option_map (λ parts. (b ∷ parts.0, parts.1)) (at_colon bs)
 
 abbrev pub parts_read : Option (List ℕ × List ℕ) → List ℕ → Option Decoded
-parts_read None word = without_argument (behind_0x word) word
+parts_read None word = without_argument (rest_after_0x word) word
 parts_read (Some parts) word = with_argument (code_of parts.0) parts.1
 
 -- the instruction whose text a word is, or none

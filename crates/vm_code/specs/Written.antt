@@ -14,7 +14,7 @@ Says (Some word) (Some d) = (word.code ≡ d.code) × (word.pushed.items ≡ d.p
 abbrev pub said : Word → Decoded
 said word = record { code = word.code; pushed = word.pushed.items; target = word.target; len = 0 }
 
--- one word more behind a text
+-- one word more after a text
 abbrev pub with_word : List ℕ → List ℕ → List ℕ
 with_word [] word = word
 with_word (b ∷ bs) word = (b ∷ bs) ++ (32 ∷ word)

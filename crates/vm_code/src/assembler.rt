@@ -1,4 +1,4 @@
-// Programs as assembler text, and back.
+//! Programs as assembler text, and back.
 ghost use Rattle.std.specs.Prelude.{◌≡◌, ◌++◌, ◌<◌, ◌≤◌, ◌^◌, IfOk, IfErr, OnOk, string_bytes, vec_len, codes, decimal};
 ghost use Rattle.vm_code.specs.Assembly.{IsAssembly, IsMisread, IsBad};
 ghost use Rattle.vm_code.specs.Seen.{seen};
@@ -16,7 +16,7 @@ use std::alloc::{AllocError, Global};
 pub enum AsmFault {
     /// The first word that is no word of assembler text begins at this byte.
     Bad { at: u64 },
-    /// Memory was wanted and not found.
+    /// Out of memory.
     NoMemory,
 }
 
@@ -60,11 +60,11 @@ fn put_word(alloc: Global, text: &mut String, i: &Instruction<'_>) -> Result<(),
     ensures { OnOk result (string_bytes text.new ≡ with_word (string_bytes text.old) (text_of (seen i.now))) }
 {
     let word = word_of(alloc, i)?;
-    put_behind(text, word.as_str())
+    append_word(text, word.as_str())
 }
 
-// Adds a word, behind a space where words stand before it.
-fn put_behind(text: &mut String, word: &str) -> Result<(), AllocError>
+// Adds a word, after a space where words stand before it.
+fn append_word(text: &mut String, word: &str) -> Result<(), AllocError>
     ensures { OnOk result (string_bytes text.new ≡ with_word (string_bytes text.old) word.now) }
 {
     if !text.is_empty() {
@@ -107,8 +107,8 @@ fn jump_of(alloc: Global, name: &str, target: u32) -> Result<String, AllocError>
     format!(in alloc; "{name}:{target}")
 }
 
-/// The program of an assembler text. Of a text that is none the fault is told with the first byte of the first word
-/// that is none. An empty word is none: it stands between two spaces in a row, before one at the start, behind one at
+/// The program of an assembler text. Of a text that is none the fault is reported with the first byte of the first word
+/// that is none. An empty word is none: it stands between two spaces in a row, before one at the start, after one at
 /// the end.
 pub fn assemble(alloc: Global, text: &str) -> Result<Vec<u8>, AsmFault>
     ensures program { IfOk result (λ program. IsAssembly text.now program.items) }

@@ -20,7 +20,7 @@ pub const ONE: u8 = 0x51;
 pub const SIXTEEN: u8 = 0x60;
 /// Does nothing.
 pub const NOP: u8 = 0x61;
-/// Goes on at the place behind it.
+/// Goes on at the place after it.
 pub const JUMP: u8 = 0x63;
 /// The same where the top item is true.
 pub const JUMPIF: u8 = 0x64;
@@ -88,7 +88,7 @@ pub const XOR: u8 = 0x86;
 pub const EQUAL: u8 = 0x87;
 /// Fails where two items are not the same bytes.
 pub const EQUALVERIFY: u8 = 0x88;
-/// An item, and the push of another behind it.
+/// An item, and the push of another after it.
 pub const CATPUSHDATA: u8 = 0x89;
 /// `1ADD`: a number and 1.
 pub const ADD_ONE: u8 = 0x8b;
@@ -156,7 +156,7 @@ pub const TXSIGHASH: u8 = 0xae;
 pub const BLOCKHASH: u8 = 0xaf;
 /// Whether a program that is an item succeeds on items of its own, under a limit of its own.
 pub const CHECKPREDICATE: u8 = 0xc0;
-/// Whether an output of the transaction is as told.
+/// Whether an output of the transaction is as wanted.
 pub const CHECKOUTPUT: u8 = 0xc1;
 /// Pushes the asset of the input's value.
 pub const ASSET: u8 = 0xc2;

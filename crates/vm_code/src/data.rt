@@ -1,11 +1,11 @@
-// What stands behind a code: the bytes that a data code pushes, or the place that a jump leads to.
+//! What stands after a code: the bytes that a data code pushes, or the place that a jump leads to.
 ghost use Rattle.std.specs.Prelude.{◌≡◌, ◌<◌, ◌≤◌, ◌^◌, ◌+◌, [], ◌∷◌, length, IfOk};
 ghost use Rattle.vm_code.specs.Instruction.{data_at, counted_at, jump_at, little_endian};
 ghost use Rattle.vm_code.specs.Seen.{Reads};
 
 use crate::{CodeFault, Instruction};
 
-// `count` bytes behind a field of `field` bytes.
+// `count` bytes after a field of `field` bytes.
 pub fn counted_data(
     code: u8,
     field: usize,

@@ -40,11 +40,11 @@ pub enum CodeFault {
     Short,
     /// No instruction has this code.
     BadOpcode,
-    /// Memory was wanted and not found; reading one instruction wants none.
+    /// Out of memory; reading one instruction takes none.
     NoMemory,
 }
 
-/// The instruction at a place of a program. That no instruction has the code is told before that the program ends
+/// The instruction at a place of a program. That no instruction has the code is reported before that the program ends
 /// inside it.
 pub fn next<'a>(program: &'a [u8], at: u64) -> Result<Instruction<'a>, CodeFault>
     requires { at < length program.now }
@@ -56,7 +56,7 @@ pub fn next<'a>(program: &'a [u8], at: u64) -> Result<Instruction<'a>, CodeFault
     decode(program[at], &program[at + 1..])
 }
 
-// The instruction of a code and the bytes behind it.
+// The instruction of a code and the bytes after it.
 fn decode(code: u8, behind: &[u8]) -> Result<Instruction<'_>, CodeFault>
     ensures reads { Reads result (decoded code behind.now) }
     ensures within { IfOk result (λ i. (0 < i.len) × (i.len ≤ 1 + length behind.now)) }

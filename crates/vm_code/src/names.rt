@@ -1,4 +1,4 @@
-// The names of the code table.
+//! The names of the code table.
 ghost use Rattle.std.specs.Prelude.{◌≡◌, map};
 ghost use Rattle.vm_code.specs.Names.{name_in, code_in, name_of, code_of};
 

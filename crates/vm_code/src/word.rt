@@ -1,4 +1,4 @@
-// Words of assembler text: an instruction each.
+//! Words of assembler text: an instruction each.
 ghost use Rattle.std.specs.Prelude.{◌≡◌, ◌+◌, ◌<◌, ◌^◌, IfOk, IfSome, vec_len};
 ghost use Rattle.std.specs.List.{list_all};
 ghost use Rattle.std.specs.Option.{option_and_then, option_map};
@@ -6,14 +6,15 @@ ghost use Rattle.std.specs.Char.{is_ascii_digit};
 ghost use Rattle.vm_code.specs.Instruction.{is_plain};
 ghost use Rattle.vm_code.specs.Names.{code_of};
 ghost use Rattle.vm_code.specs.Text.{field_len};
-ghost use Rattle.vm_code.specs.Word.{word_read, with_argument, without_argument, behind_0x, named, data_of, counted};
-ghost use Rattle.vm_code.specs.Word.{jump, hex_read, is_lower_digit, place_read, is_decimal};
+ghost use Rattle.vm_code.specs.Word.{word_read, with_argument, without_argument, rest_after_0x, named, data_of};
+ghost use Rattle.vm_code.specs.Word.{counted, jump, hex_read, is_lower_digit, place_read};
 ghost use Rattle.vm_code.specs.Written.{Says};
 
 use crate::codes::{DATA_MAX, DATA_MIN, JUMP, JUMPIF, PUSHDATA1, PUSHDATA2, PUSHDATA4};
 use crate::is_plain;
 use crate::names::code_of;
 use std::alloc::{AllocError, Global};
+use wire::decimal_within;
 
 /// An instruction that a word says: its code, what it pushes and where it jumps, as of one that was read.
 #[derive(Drop)]
@@ -54,17 +55,17 @@ fn with_argument(
 
 // A word without a colon.
 fn without_argument(alloc: Global, word: &str) -> Result<Option<Word>, AllocError>
-    ensures reads { IfOk result (λ said. Says said (without_argument (behind_0x word.now) word.now)) }
+    ensures reads { IfOk result (λ said. Says said (without_argument (rest_after_0x word.now) word.now)) }
     ensures small { IfOk result (λ said. IfSome said (λ said. vec_len said.pushed < 2 ^ 32)) }
 {
-    match behind_0x(word.as_bytes()) {
+    match rest_after_0x(word.as_bytes()) {
         Some(digits) => data(alloc, digits),
         None => Ok(named(alloc, code_of(word))),
     }
 }
 
-fn behind_0x(word: &[u8]) -> Option<&[u8]>
-    ensures { option_map (λ digits. digits.now) result ≡ behind_0x word.now }
+fn rest_after_0x(word: &[u8]) -> Option<&[u8]>
+    ensures { option_map (λ digits. digits.now) result ≡ rest_after_0x word.now }
 {
     match word {
         [b'0', b'x', digits @ ..] => Some(digits),
@@ -160,28 +161,9 @@ fn are_lower_digits(digits: &[u8]) -> bool
 }
 
 // The number below 2^32 of digits without a leading zero.
-#[tactic(auto, unfolding(crate::specs::Word::place_read))]
 fn decimal(digits: &str) -> Option<u32>
     ensures { result ≡ place_read digits.now }
 {
-    if !is_decimal(digits.as_bytes()) {
-        return None;
-    }
-    digits.parse::<u32>().ok()
-}
-
-fn is_decimal(digits: &[u8]) -> bool
-    ensures { result ≡ is_decimal digits.now }
-{
-    match digits {
-        [b'0'] => true,
-        [b'1'..=b'9', rest @ ..] => are_digits(rest),
-        _ => false,
-    }
-}
-
-fn are_digits(digits: &[u8]) -> bool
-    ensures { result ≡ list_all is_ascii_digit digits.now }
-{
-    digits.iter().all(|d| d.is_ascii_digit())
+    let place = decimal_within(digits.as_bytes(), u64::from(u32::MAX))?;
+    Some(place as u32)
 }

@@ -1,6 +1,7 @@
 -- Items of the machine's stacks, and what they are read as.
 use Rattle.std.specs.Prelude.{ℕ, ◌+◌, ◌-◌, ◌<◌, ◌^◌, ◌==◌, Bool, List, [], ◌∷◌, ◌++◌, length, Option, Some, None}
-use Rattle.std.specs.Prelude.{if◌then◌else◌, nat_le, nat_lt, sum_by, not, replicate, ℤ, pos, negsuc, ◌+ℤ◌, ◌-ℤ◌, get_or}
+use Rattle.std.specs.Prelude.{if◌then◌else◌, nat_le, nat_lt, sum_by, not, replicate, ℤ, pos, negsuc, ◌+ℤ◌, ◌-ℤ◌}
+use Rattle.std.specs.Prelude.{slice_index}
 use Rattle.std.specs.List.{list_any}
 use Rattle.std.specs.Int.{w64, to_le_bytes, from_le_bytes, cast_signed, cast_unsigned}
 
@@ -10,7 +11,7 @@ Item = List ℕ
 
 -- each is below 256
 abbrev pub AreBytes : List ℕ → Type 0
-AreBytes bytes = (i : ℕ) → get_or bytes i 0 < 256
+AreBytes bytes = (i : ℕ) → slice_index bytes i < 256
 
 -- what an item on a stack costs
 abbrev pub cost : Item → ℕ

@@ -4,7 +4,7 @@ use Rattle.std.specs.Prelude.{negsuc}
 use Rattle.std.specs.Int.{w16, w32, to_le_bytes}
 use Rattle.vm_num.specs.Item.{Item, num_bytes}
 
--- the shortest push of an item: FALSE for none of a byte, else the data codes up to 75 bytes, else PUSHDATA1, PUSHDATA2
+-- the push of an item: FALSE for none of a byte, else the data codes up to 75 bytes, else PUSHDATA1, PUSHDATA2
 -- or PUSHDATA4 with the length little-endian
 unfoldable pub push_of : Item → List ℕ
 push_of item =

@@ -1,3 +1,4 @@
+//! Why an instruction fails.
 ghost use Rattle.std.specs.Prelude.{Some};
 ghost use Rattle.vm_num.specs.Failure.{failure_name};
 

@@ -3,15 +3,14 @@
 #![tactic(auto)]
 
 mod failure;
-mod memory;
 mod number;
 mod operations;
 mod push;
 mod sums;
 
 pub use failure::Failure;
-pub use memory::NoMemory;
 pub use number::{Num, read_num, truth, write_num};
 pub use operations::{div, mul, rem, shl, shr};
 pub use push::{push_bytes, push_int};
+pub use std::alloc::AllocError as NoMemory;
 pub use sums::{add, sub};

@@ -1,3 +1,4 @@
+//! Items read as numbers and as truth values, and numbers written as items.
 ghost use Rattle.std.specs.Prelude.{◌≡◌, ◌≤◌, length, Some};
 ghost use Rattle.vm_num.specs.Item.{Item, num, num_bytes, is_true, AreBytes};
 

@@ -1,3 +1,4 @@
+//! Multiplication, division and shifts of 64-bit numbers.
 ghost use Rattle.std.specs.Prelude.{◌≡◌};
 ghost use Rattle.vm_num.specs.Operations.{product_of, quotient_of, remainder_of, left_shift_of, right_shift_of};
 

@@ -1,9 +1,11 @@
+//! The pushes of strings and of numbers that programs are written with.
 ghost use Rattle.std.specs.Prelude.{◌≡◌, ◌<◌, ◌^◌, ◌++◌, length, OnOk, OnErr};
 ghost use Rattle.vm_num.specs.Push.{push_of, push_int_of};
 
 use crate::{NoMemory, write_num};
 
-/// Appends the shortest instruction that pushes this item. After a refusal `out` is as it was.
+/// Appends the push of an item: FALSE for an empty one, else the shortest of the codes 01 to 4e. After a refusal `out`
+/// is as it was.
 #[tactic(auto, unfolding(crate::specs::Push::push_of))]
 pub fn push_bytes(out: &mut Vec<u8>, item: &[u8]) -> Result<(), NoMemory>
     requires { length item.now < 2 ^ 32 }

@@ -1,3 +1,4 @@
+//! Sums and differences of 64-bit numbers.
 ghost use Rattle.std.specs.Prelude.{◌≡◌};
 ghost use Rattle.vm_num.specs.Item.{sum_of, difference_of};
 

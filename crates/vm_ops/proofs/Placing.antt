@@ -3,7 +3,8 @@ use Rattle.std.proofs.Common.{◌≡◌, ℕ, zero, suc, ◌+◌, ◌-◌, ◌<�
 use Rattle.std.specs.Prelude.{slice_index_or}
 use Rattle.std.proofs.lemmas.Bool.{cases_lt}
 use Rattle.vm_num.specs.Item.{Item}
-use Rattle.vm_ops.specs.Signatures.{Check, MultiGood, is_multi_good}
+use Rattle.vm_ops.specs.Signatures.{MultiGood, is_multi_good}
+use Rattle.keyed.specs.Functions.{Check}
 use Rattle.vm_ops.proofs.Trying.{either, or_right, no_signature}
 
 -- ---- found by trying, so there are places
@@ -16,7 +17,7 @@ none_placed check keys message = record {
   good = λ i less. absurd (omega (arith, less));
 }
 
--- the first key's place, and the places behind it
+-- the first key's place, and the places after it
 abbrev behind_first : (ℕ → ℕ) → ℕ → ℕ
 behind_first place zero = 0
 behind_first place (suc i) = suc (place i)

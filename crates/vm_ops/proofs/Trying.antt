@@ -5,7 +5,8 @@ use Rattle.std.proofs.lemmas.Bool.{cases_lt, ne_eqb}
 use Rattle.std.proofs.lemmas.Bool.Decides.{nat_tests}
 use Rattle.std.proofs.lemmas.List.{drop_more, get_or-reverse, get_or-take, get_or-drop, length-drop, length-take-le, length-reverse}
 use Rattle.vm_num.specs.Item.{Item}
-use Rattle.vm_ops.specs.Signatures.{Check, is_multi_good, keys_in, message_in, signatures_in}
+use Rattle.vm_ops.specs.Signatures.{is_multi_good, keys_in, message_in, signatures_in}
+use Rattle.keyed.specs.Functions.{Check}
 
 pub or_right : (x y : Bool) → y ≡ true → (x || y) ≡ true
 or_right false y is = is
@@ -78,7 +79,7 @@ all_signatures m n items there =
     length-reverse (take m (drop (n + 1) items))
     ∙ length-take-le m (drop (n + 1) items) (rw (length-drop (n + 1) items) (omega arith))
 
--- the signatures behind the first f, tried on the keys behind the first k
+-- the signatures after the first f, tried on the keys after the first k
 abbrev pub tried : Check → List Item → ℕ → ℕ → ℕ → ℕ → Bool
 tried check items m n k f =
     is_multi_good check (drop k (keys_in n items)) (message_in n items) (drop f (signatures_in m n items))

@@ -1,5 +1,6 @@
 pub mod Bits
 pub mod Bytes
-pub mod Line
+pub mod Results
 pub mod Numbers
+pub mod Operators
 pub mod Signatures

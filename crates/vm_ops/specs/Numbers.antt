@@ -6,7 +6,7 @@ use Rattle.std.specs.Int.{int_min, int_max}
 use Rattle.vm_num.specs.Item.{exact, num_bytes, sum_of, difference_of}
 use Rattle.vm_num.specs.Operations.{product_of, quotient_of, remainder_of, floor_by, left_shift_of, right_shift_of}
 use Rattle.vm_num.specs.declared.failure.Failure.TheVariants.{BadOpcode, BadValue, DivZero}
-use Rattle.vm_ops.specs.Line.{Line, number_item, truth_item, line_at}
+use Rattle.vm_ops.specs.Results.{ItemResult, number_item, truth_item, entry_at}
 
 -- the codes of these lines: 8b to 99, 9c, and 9e to a5
 pub record IsNumberCode (code : ℕ) : Type 0 where
@@ -17,15 +17,15 @@ pub record IsNumberCode (code : ℕ) : Type 0 where
   pub to_within : code ≤ 0xa5
 
 -- by a divisor, and by a count
-abbrev pub by_divisor : ℤ → Option ℤ → Line
+abbrev pub by_divisor : ℤ → Option ℤ → ItemResult
 by_divisor divisor n = if int_eq divisor (pos 0) then Err DivZero else number_item n
 
-abbrev pub by_count : ℤ → Option ℤ → Line
+abbrev pub by_count : ℤ → Option ℤ → ItemResult
 by_count count n = if int_lt count (pos 0) then Err BadValue else number_item n
 
 -- 1ADD, 1SUB, 2MUL, 2DIV, NEGATE, ABS, NOT, 0NOTEQUAL
-unfoldable pub one_number_line : ℕ → ℤ → Line
-one_number_line code a = line_at (Err BadOpcode) (
+unfoldable pub one_number_result : ℕ → ℤ → ItemResult
+one_number_result code a = entry_at (Err BadOpcode) (
     (0x8b, number_item (sum_of a (pos 1)))
     ∷ (0x8c, number_item (difference_of a (pos 1)))
     ∷ (0x8d, number_item (product_of a (pos 2)))
@@ -37,8 +37,8 @@ one_number_line code a = line_at (Err BadOpcode) (
     ∷ []) code
 
 -- ADD, SUB, MUL, DIV, MOD, LSHIFT, RSHIFT
-unfoldable pub arithmetic_line : ℕ → ℤ → ℤ → Line
-arithmetic_line code a b = line_at (Err BadOpcode) (
+unfoldable pub arithmetic_result : ℕ → ℤ → ℤ → ItemResult
+arithmetic_result code a b = entry_at (Err BadOpcode) (
     (0x93, number_item (sum_of a b))
     ∷ (0x94, number_item (difference_of a b))
     ∷ (0x95, number_item (product_of a b))
@@ -50,8 +50,8 @@ arithmetic_line code a b = line_at (Err BadOpcode) (
 
 -- NUMEQUAL, NUMNOTEQUAL, LESSTHAN, GREATERTHAN, LESSTHANOREQUAL, GREATERTHANOREQUAL, MIN, MAX, and WITHIN, whose b is
 -- the least that is in and c the least past it
-unfoldable pub comparison_line : ℕ → ℤ → ℤ → ℤ → Line
-comparison_line code a b c = line_at (Err BadOpcode) (
+unfoldable pub comparison_result : ℕ → ℤ → ℤ → ℤ → ItemResult
+comparison_result code a b c = entry_at (Err BadOpcode) (
     (0x9c, Ok (truth_item (int_eq a b)))
     ∷ (0x9e, Ok (truth_item (not (int_eq a b))))
     ∷ (0x9f, Ok (truth_item (int_lt a b)))
@@ -64,11 +64,11 @@ comparison_line code a b c = line_at (Err BadOpcode) (
     ∷ []) code
 
 -- the line of a code, on as many of the numbers as it takes
-abbrev pub number_line : ℕ → ℤ → ℤ → ℤ → Line
-number_line code a b c =
-    if nat_le code 0x92 then one_number_line code a
-    else (if nat_le code 0x99 then arithmetic_line code a b
-    else comparison_line code a b c)
+abbrev pub number_result : ℕ → ℤ → ℤ → ℤ → ItemResult
+number_result code a b c =
+    if nat_le code 0x92 then one_number_result code a
+    else (if nat_le code 0x99 then arithmetic_result code a b
+    else comparison_result code a b c)
 
 -- how many numbers it takes
 abbrev pub number_count : ℕ → ℕ

@@ -1,13 +1,10 @@
 -- Signatures of one message by some of several keys (Chain VM 1, CHECKMULTISIG).
 use Rattle.std.specs.Prelude.{◌≡◌, ℕ, ◌+◌, ◌<◌, ◌&&◌, ◌||◌, Bool, true, false, List, [], ◌∷◌, length, take, drop}
 use Rattle.std.specs.Prelude.{reverse, slice_index_or}
+use Rattle.keyed.specs.Functions.{Check}
 use Rattle.vm_num.specs.Item.{Item}
 
--- whether a signature is good, by the key, the message and the signature
-abbrev pub Check : Type 0
-Check = Item → Item → Item → Bool
-
--- There are places of keys, each behind the one before, at which the signatures, in their order, are good.
+-- There are places of keys, each after the one before, at which the signatures, in their order, are good.
 pub record MultiGood (check : Check) (keys : List Item) (message : Item) (signatures : List Item) : Type 0 where
   pub place : ℕ → ℕ
   pub increasing : (i : ℕ) → i + 1 < length signatures → place i < place (i + 1)

@@ -1,6 +1,8 @@
+//! Bitwise operations on items.
 ghost use Rattle.std.specs.Prelude.{◌≡◌, length, map, slice_index};
 ghost use Rattle.std.specs.Int.{w8, bit_not};
-ghost use Rattle.vm_ops.specs.Bits.{each_of, bit_operation};
+ghost use Rattle.vm_ops.specs.Bits.{each_of};
+ghost use Rattle.vm_ops.specs.Operators.{bit_operation};
 
 /// An operator on two bytes.
 #[derive(Clone, Copy)]

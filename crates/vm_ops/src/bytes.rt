@@ -1,8 +1,11 @@
+//! The rows that make an item of strings of bytes.
 ghost use Rattle.std.specs.Prelude.{◌≡◌, ◌<◌, ◌^◌, ◌++◌, Ok, Err, OnOk, OnErr, IfOk, IfErr, length, map, max, min};
 ghost use Rattle.std.specs.Int.{w8, bit_not};
-ghost use Rattle.vm_ops.specs.Bits.{each_of, bit_operation};
-ghost use Rattle.vm_ops.specs.Bytes.{IsBytesCode, AddsItem, IsCause, bytes_line, part_line, end_line, push_line};
-ghost use Rattle.vm_ops.specs.Line.{truth_item};
+ghost use Rattle.vm_ops.specs.Bits.{each_of};
+ghost use Rattle.vm_ops.specs.Operators.{bit_operation};
+ghost use Rattle.vm_ops.specs.Bytes.{IsBytesCode, AddsItem, IsFailureOf, bytes_result, part_result, end_result};
+ghost use Rattle.vm_ops.specs.Bytes.{push_result};
+ghost use Rattle.vm_ops.specs.Results.{truth_item};
 
 use crate::RowFault;
 use crate::bits::{Bitwise, fill, invert};
@@ -16,8 +19,8 @@ use vm_num::{Failure, push_bytes};
 /// empty.
 ///
 /// `BadValue` is a place or a number of bytes that is negative or leads past the end of `a`, and, for CATPUSHDATA, a
-/// `b` of 2^32 bytes or more. After a failure, want of memory included, `out` is as it was.
-#[tactic(auto, unfolding(crate::specs::Bytes::bytes_line))]
+/// `b` of 2^32 bytes or more. After a failure, out of memory too, `out` is as it was.
+#[tactic(auto, unfolding(crate::specs::Bytes::bytes_result))]
 pub fn bytes_row(
     code: u8,
     a: &[u8],
@@ -27,8 +30,8 @@ pub fn bytes_row(
     out: &mut Vec<u8>,
 ) -> Result<(), RowFault>
     requires { IsBytesCode code }
-    ensures ok { OnOk result (AddsItem out.old.items out.new.items (bytes_line code a.now b.now from size)) }
-    ensures cause { IfErr result (IsCause (bytes_line code a.now b.now from size)) }
+    ensures ok { OnOk result (AddsItem out.old.items out.new.items (bytes_result code a.now b.now from size)) }
+    ensures cause { IfErr result (IsFailureOf (bytes_result code a.now b.now from size)) }
     ensures err { OnErr result (out.new.items ≡ out.old.items) }
 {
     match code {
@@ -73,8 +76,8 @@ fn join(a: &[u8], b: &[u8], out: &mut Vec<u8>) -> Result<(), RowFault>
 }
 
 fn append_push(a: &[u8], b: &[u8], out: &mut Vec<u8>) -> Result<(), RowFault>
-    ensures ok { OnOk result (AddsItem out.old.items out.new.items (push_line a.now b.now)) }
-    ensures cause { IfErr result (IsCause (push_line a.now b.now)) }
+    ensures ok { OnOk result (AddsItem out.old.items out.new.items (push_result a.now b.now)) }
+    ensures cause { IfErr result (IsFailureOf (push_result a.now b.now)) }
     ensures err { OnErr result (out.new.items ≡ out.old.items) }
 {
     if b.len() > 0xffff_ffff {
@@ -91,16 +94,16 @@ fn append_push(a: &[u8], b: &[u8], out: &mut Vec<u8>) -> Result<(), RowFault>
 }
 
 fn append_part(a: &[u8], from: i64, size: i64, out: &mut Vec<u8>) -> Result<(), RowFault>
-    ensures ok { OnOk result (AddsItem out.old.items out.new.items (part_line a.now from size)) }
-    ensures cause { IfErr result (IsCause (part_line a.now from size)) }
+    ensures ok { OnOk result (AddsItem out.old.items out.new.items (part_result a.now from size)) }
+    ensures cause { IfErr result (IsFailureOf (part_result a.now from size)) }
     ensures err { OnErr result (out.new.items ≡ out.old.items) }
 {
     append(part(a, from, size)?, out)
 }
 
 fn part(a: &[u8], from: i64, size: i64) -> Result<&[u8], Failure>
-    ensures ok { IfOk result (λ s. part_line a.now from size ≡ Ok s.now) }
-    ensures err { IfErr result (λ kind. part_line a.now from size ≡ Err kind) }
+    ensures ok { IfOk result (λ s. part_result a.now from size ≡ Ok s.now) }
+    ensures err { IfErr result (λ kind. part_result a.now from size ≡ Err kind) }
 {
     if from < 0 || size < 0 {
         return Err(Failure::BadValue);
@@ -114,16 +117,16 @@ fn part(a: &[u8], from: i64, size: i64) -> Result<&[u8], Failure>
 }
 
 fn append_end(a: &[u8], size: i64, out: &mut Vec<u8>) -> Result<(), RowFault>
-    ensures ok { OnOk result (AddsItem out.old.items out.new.items (end_line a.now size)) }
-    ensures cause { IfErr result (IsCause (end_line a.now size)) }
+    ensures ok { OnOk result (AddsItem out.old.items out.new.items (end_result a.now size)) }
+    ensures cause { IfErr result (IsFailureOf (end_result a.now size)) }
     ensures err { OnErr result (out.new.items ≡ out.old.items) }
 {
     append(last(a, size)?, out)
 }
 
 fn last(a: &[u8], size: i64) -> Result<&[u8], Failure>
-    ensures ok { IfOk result (λ s. end_line a.now size ≡ Ok s.now) }
-    ensures err { IfErr result (λ kind. end_line a.now size ≡ Err kind) }
+    ensures ok { IfOk result (λ s. end_result a.now size ≡ Ok s.now) }
+    ensures err { IfErr result (λ kind. end_result a.now size ≡ Err kind) }
 {
     if size < 0 {
         return Err(Failure::BadValue);

@@ -1,4 +1,4 @@
-// The codes of the instructions whose rows stand here (Chain VM 1).
+//! The codes of the instructions whose rows stand here (Chain VM 1).
 pub const CAT: u8 = 0x7e;
 
 pub const SUBSTR: u8 = 0x7f;

@@ -1,3 +1,4 @@
+//! Why a row gives no item.
 ghost use Rattle.std.specs.Prelude.{◌≡◌};
 
 use std::alloc::AllocError;
@@ -8,7 +9,7 @@ use vm_num::Failure;
 pub enum RowFault {
     /// The row fails on these operands.
     Row(Failure),
-    /// Memory was wanted and not found.
+    /// Out of memory.
     NoMemory,
 }
 

@@ -2,7 +2,7 @@
 ghost use Rattle.std.specs.Prelude.{◌≡◌, ◌≤◌, ℕ, Bool};
 ghost use Rattle.vm_num.specs.Item.{Item, is_true};
 ghost use Rattle.vm_ops.specs.Bytes.{bytes_base};
-ghost use Rattle.vm_ops.specs.Line.{truth_item};
+ghost use Rattle.vm_ops.specs.Results.{truth_item};
 ghost use Rattle.vm_ops.specs.Numbers.{number_base};
 
 /// Every row costs something.

@@ -1,8 +1,9 @@
+//! The rows that make a number or a truth value of numbers.
 ghost use Rattle.std.specs.Prelude.{◌≡◌, ◌≢◌, ◌≤◌, pos, neg_ℤ, unsigned_abs, Ok};
 ghost use Rattle.vm_num.specs.Item.{exact};
-ghost use Rattle.vm_ops.specs.Line.{number_item, truth_item};
-ghost use Rattle.vm_ops.specs.Numbers.{IsNumberCode, by_divisor, by_count, one_number_line, arithmetic_line};
-ghost use Rattle.vm_ops.specs.Numbers.{comparison_line, number_line};
+ghost use Rattle.vm_ops.specs.Results.{number_item, truth_item};
+ghost use Rattle.vm_ops.specs.Numbers.{IsNumberCode, by_divisor, by_count, one_number_result, arithmetic_result};
+ghost use Rattle.vm_ops.specs.Numbers.{comparison_result, number_result};
 
 use crate::codes::{
     ABS, ADD, ADD_ONE, DIV, DOUBLE, GREATERTHAN, GREATERTHANOREQUAL, HALVE, LESSTHAN,
@@ -18,7 +19,7 @@ use vm_num::{Failure, Num, add, div, mul, rem, shl, shr, sub, write_num};
 /// 64-bit number.
 pub fn number_row(code: u8, a: i64, b: i64, c: i64) -> Result<Num, Failure>
     requires { IsNumberCode code }
-    ensures { result ≡ number_line code a b c }
+    ensures { result ≡ number_result code a b c }
 {
     match code {
         ..=NOT_ZERO => one_number(code, a),
@@ -27,11 +28,11 @@ pub fn number_row(code: u8, a: i64, b: i64, c: i64) -> Result<Num, Failure>
     }
 }
 
-#[tactic(auto, unfolding(crate::specs::Numbers::one_number_line))]
+#[tactic(auto, unfolding(crate::specs::Numbers::one_number_result))]
 fn one_number(code: u8, a: i64) -> Result<Num, Failure>
     requires low { 0x8b ≤ code }
     requires high { code ≤ 0x92 }
-    ensures { result ≡ one_number_line code a }
+    ensures { result ≡ one_number_result code a }
 {
     match code {
         ADD_ONE => number(add(a, 1)),
@@ -45,11 +46,11 @@ fn one_number(code: u8, a: i64) -> Result<Num, Failure>
     }
 }
 
-#[tactic(auto, unfolding(crate::specs::Numbers::arithmetic_line))]
+#[tactic(auto, unfolding(crate::specs::Numbers::arithmetic_result))]
 fn arithmetic(code: u8, a: i64, b: i64) -> Result<Num, Failure>
     requires low { 0x93 ≤ code }
     requires high { code ≤ 0x99 }
-    ensures { result ≡ arithmetic_line code a b }
+    ensures { result ≡ arithmetic_result code a b }
 {
     match code {
         ADD => number(add(a, b)),
@@ -62,12 +63,12 @@ fn arithmetic(code: u8, a: i64, b: i64) -> Result<Num, Failure>
     }
 }
 
-#[tactic(auto, unfolding(crate::specs::Numbers::comparison_line))]
+#[tactic(auto, unfolding(crate::specs::Numbers::comparison_result))]
 fn comparison(code: u8, a: i64, b: i64, c: i64) -> Result<Num, Failure>
     requires low { 0x9c ≤ code }
     requires verifies { code ≢ 0x9d }
     requires high { code ≤ 0xa5 }
-    ensures { result ≡ comparison_line code a b c }
+    ensures { result ≡ comparison_result code a b c }
 {
     match code {
         NUMEQUAL => Ok(truth_num(a == b)),

@@ -1,3 +1,4 @@
+//! Signatures of one message by some of several keys.
 ghost use Rattle.std.specs.Prelude.{◌≡◌, ◌<◌, ◌≤◌, ◌+◌, ◌^◌, ◌↔◌, [], length, slice_index_or, IsTrue};
 ghost use Rattle.vm_ops.specs.Signatures.{MultiGood, is_multi_good, keys_in, message_in, signatures_in};
 
@@ -15,7 +16,7 @@ pub fn multi_good<C: SigCheck, P: Pile>(sigs: &C, pile: &P, m: u64, n: u64) -> b
     ensures value { result ≡ is_multi_good (C.good_of sigs.now) (keys_in n (P.items_of pile.now))
         (message_in n (P.items_of pile.now)) (signatures_in m n (P.items_of pile.now)) }
 {
-    // Each signature is given the first key that is good for it, behind the key of the signature before.
+    // Each signature is given the first key that is good for it, after the key of the signature before.
     let mut found = 0;
     for k in 0..n {
         if found == m {

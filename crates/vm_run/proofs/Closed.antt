@@ -8,7 +8,8 @@ use Rattle.vm_run.specs.declared.run.End.{End}
 use Rattle.vm_run.specs.declared.run.End.TheVariants as ends
 use Rattle.vm_run.specs.declared.predicate.Opened.{Opened}
 use Rattle.vm_run.specs.declared.step.Done.TheVariants.{Moved, Called}
-use Rattle.vm_run.specs.Row.{Context, Check}
+use Rattle.vm_run.specs.Row.{Context}
+use Rattle.keyed.specs.Functions.{Check}
 use Rattle.vm_run.specs.Run.{Outcome, Ended, FailedAt, Child, Move, Opens, count_of, spent_in, lost_in, with_result, left_behind, top_is_true, move, Run}
 use Rattle.vm_run.specs.Stretch.{State, RunFrom, RunIn, Completes, alone, with_child, Steps, none, and_one}
 use Rattle.vm_run.specs.Ends.{Ends, Closed, given_by}
@@ -32,7 +33,7 @@ module _ (context : Context) (check : Check) where
   state-is : (m' : Machine) (place left : ℕ) (both : Stacks) → m'.at ≡ place → m'.stack ≡ both → m'.left ≡ left → record { place = place; items = both.items; alt = both.alt; left = left } ≡ state_of m'
   state-is m' place left both at stack rest = rw (at, stack, rest) refl
 
-  -- a machine that took back what a child left, whose run had this outcome, stands behind a completed instruction
+  -- a machine that took back what a child left, whose run had this outcome, stands after a completed instruction
   behind : (at : Move) (m m' : Machine) (o : Opened) (called : List ℕ) (inner : Outcome) → IsOpened at (Ok o) m → Some called ≡ slice_get o.popped.items 1 → RunFrom context check called (state_of o.child) inner → m'.stack ≡ record m.stack { items = with_result inner m.stack.items } → m'.at ≡ m.at → m'.left ≡ left_behind inner m.left → (n spent lost : ℕ) × Completes context check at (state_of m') n spent lost
   behind at m m' o called inner opened item run stack place left =
       let child : Child = record { program = item_at 1 o.popped.items; items = o.child.stack.items; limit = o.child.left } in
@@ -46,7 +47,7 @@ module _ (context : Context) (check : Check) where
       )
 
   -- a child gives back no more than it was opened with
-  pub given-within : (called : List ℕ) (child child' : Machine) (end : End) → Ends context check called child (Ok end) child' → given_by end child' ≤ child.left + held_cost child.stack
+  pub given-within : (called : List ℕ) (child child' : Machine) (end : End) → Ends context check called child end child' → given_by end child' ≤ child.left + held_cost child.stack
   given-within called child child' ends.Ended run = by (top_is_true child'.stack.items)
     where
       by : (b : Bool) → cond b (child'.left + held_cost child'.stack) 0 ≤ child.left + held_cost child.stack
@@ -54,7 +55,7 @@ module _ (context : Context) (check : Check) where
       by false = omega arith
   given-within called child child' (ends.Failed kind place) run = omega arith
 
-  closes : (at : Move) (m m' : Machine) (o : Opened) (child : Machine) (called : List ℕ) (end : End) → IsOpened at (Ok o) m → Some called ≡ slice_get o.popped.items 1 → Ends context check called o.child (Ok end) child → Closed end child m m' → (n spent lost : ℕ) × Completes context check at (state_of m') n spent lost
+  closes : (at : Move) (m m' : Machine) (o : Opened) (child : Machine) (called : List ℕ) (end : End) → IsOpened at (Ok o) m → Some called ≡ slice_get o.popped.items 1 → Ends context check called o.child end child → Closed end child m m' → (n spent lost : ℕ) × Completes context check at (state_of m') n spent lost
   closes at m m' o child called ends.Ended opened item run closed =
       behind at m m' o called (Ended child.left child.stack.items child.stack.alt run.0 run.1 run.2) opened item run.3 closed.0 closed.1 closed.2
   closes at m m' o child called (ends.Failed kind place) opened item run closed =
@@ -84,7 +85,7 @@ module _ (context : Context) (check : Check) where
       stepped program m m' before (1, base_of (move_of program m), 0, subst (λ (at : Move). Completes context check at (state_of m') 1 (base_of (move_of program m)) 0) (sym leads) alone)
 
   -- a CHECKPREDICATE, from which a child was opened, and what became of it closed
-  pub closed : (program : List ℕ) (m c p m' : Machine) (o : Opened) (child : Machine) (called : List ℕ) (end : End) → m.at < length program → Leads m.stack m.left (move_of program m) (Ok Called) c → IsOpened (call_move c) (Ok o) p → Some called ≡ slice_get o.popped.items 1 → Ends context check called o.child (Ok end) child → Closed end child p m' → Stepped program m m'
+  pub closed : (program : List ℕ) (m c p m' : Machine) (o : Opened) (child : Machine) (called : List ℕ) (end : End) → m.at < length program → Leads m.stack m.left (move_of program m) (Ok Called) c → IsOpened (call_move c) (Ok o) p → Some called ≡ slice_get o.popped.items 1 → Ends context check called o.child end child → Closed end child p m' → Stepped program m m'
   closed program m c p m' o child called end before leads opened item run closing =
       let opens : IsOpened (move_of program m) (Ok o) p = subst (λ (at : Move). IsOpened at (Ok o) p) (sym leads.2) opened in
       stepped program m m' before (closes (move_of program m) p m' o child called end opens item run closing)

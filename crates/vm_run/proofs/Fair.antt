@@ -7,15 +7,19 @@ use Rattle.std.proofs.lemmas.Bool.Decides.{nat_tests}
 use Rattle.vm_num.specs.Item.{Item, num, num_bytes, is_true}
 use Rattle.vm_num.specs.declared.failure.Failure.TheVariants.{Underflow, BadOpcode, BadJump}
 use Rattle.vm_code.specs.Instruction.{Decoded, is_jump}
-use Rattle.vm_ops.specs.Line.{Line, line_at-all}
-use Rattle.vm_ops.specs.Bytes.{bytes_line, bytes_base}
+use Rattle.vm_ops.specs.Results.{ItemResult, entry_at-all}
+use Rattle.vm_ops.specs.Bytes.{bytes_result, bytes_base}
 use Rattle.vm_ops.specs.Signatures.{message_in}
-use Rattle.vm_ops.specs.Numbers.{number_line, number_base, number_count}
-use Rattle.vm_run.specs.Effect.{Context, Nothing, Tx, TxContext, Block, BlockContext, Check, Row, Faults, Does, Calls, Rule, does, always, needs, on_one, on_two, on_three, on_alt, with_number, on_number, on_two_numbers, on_three_numbers, on_size, on_part, counted, by_count, in_block, in_tx, push_row}
+use Rattle.vm_ops.specs.Numbers.{number_result, number_base, number_count}
+use Rattle.vm_run.specs.Effect.{Context, Nothing, Tx, TxContext, Block, BlockContext, Row, Faults, Does, Calls, Rule}
+use Rattle.vm_run.specs.Effect.{does, always, needs, on_one, on_two, on_three, on_alt, with_number, on_number}
+use Rattle.vm_run.specs.Effect.{on_two_numbers, on_three_numbers, on_size, on_part, counted, by_count, in_block}
+use Rattle.vm_run.specs.Effect.{in_tx, push_row}
+use Rattle.keyed.specs.Functions.{Check}
 use Rattle.vm_run.specs.Moving.{push_rule, jump_row, jump_if_row, verify_row, to_alt_row, from_alt_row, control_table, control_rule, drops, copies, moves, ifdup_row, nip_row, tuck_row, pick_row, roll_row, stack_table, stack_rule}
-use Rattle.vm_run.specs.Making.{string_row, of_string, of_two_strings, of_size, of_part, size_row, equalverify_row, string_table, string_rule, number_row, of_number, of_two_numbers, of_three_numbers, of_numbers, numequalverify_row, number_table, number_rule, call_row, calls, other_table, other_rule}
+use Rattle.vm_run.specs.Making.{string_row, of_string, of_two_strings, of_size, of_part, size_row, equalverify_row, string_table, string_rule, number_row, of_number, of_two_numbers, of_three_numbers, of_numbers, numequalverify_row, number_table, number_rule, call_row, calls, high_table, high_rule}
 use Rattle.vm_run.specs.Signing.{by_counts, signature_row, signatures_row}
-use Rattle.vm_run.specs.ContextLines.{sig_hash_row, on_numbers, on_told, output_row, output_at, output_id_row, program_row, context_table, context_rule}
+use Rattle.vm_run.specs.Introspection.{sig_hash_row, on_numbers, on_wanted, output_row, output_at, output_id_row, program_row, context_table, context_rule}
 use Rattle.vm_run.specs.declared.transaction.OutSeen.{OutSeen}
 use Rattle.vm_stack.specs.Stacks.{item_at}
 use Rattle.vm_run.specs.Row.{row}
@@ -30,7 +34,7 @@ number_base-fair code = grind (arith, nat_tests)
 
 bytes_base-fair : (code : ℕ) (a b item : Item) → 1 ≤ bytes_base code a b item
 bytes_base-fair code a b item =
-    line_at-all (λ (base : ℕ). 1 ≤ base) (4 + length item) (
+    entry_at-all (λ (base : ℕ). 1 ≤ base) (4 + length item) (
     (0x83, 1 + length a)
     ∷ (0x84, 1 + min (length a) (length b))
     ∷ (0x85, 1 + max (length a) (length b))
@@ -56,7 +60,7 @@ Fair P (Calls program asked count) = Unit {0}
 
 module _ (P : Option ℕ → Type 0) (none : P None) where
   abbrev FairRule : Rule → Type 0
-  FairRule line = (items alt : List Item) → Fair P (line items alt)
+  FairRule rule = (items alt : List Item) → Fair P (rule items alt)
 
   either : (b : Bool) (x y : Row) → Fair P x → Fair P y → Fair P (cond b x y)
   either true x y p q = p
@@ -68,73 +72,73 @@ module _ (P : Option ℕ → Type 0) (none : P None) where
 
   -- ---- by what a line needs
 
-  fixed : (line : Row) → Fair P line → FairRule (always line)
-  fixed line fair items alt = fair
+  fixed : (rule : Row) → Fair P rule → FairRule (always rule)
+  fixed rule fair items alt = fair
 
-  needing : (n : ℕ) (line : List Item → Row) → ((items : List Item) → Fair P (line items)) → FairRule (needs n line)
-  needing n line fair items alt = either (leb n (length items)) (line items) (Faults Underflow) (fair items) tt
+  needing : (n : ℕ) (rule : List Item → Row) → ((items : List Item) → Fair P (rule items)) → FairRule (needs n rule)
+  needing n rule fair items alt = either (leb n (length items)) (rule items) (Faults Underflow) (fair items) tt
 
-  single : (line : Item → Row) → ((a : Item) → Fair P (line a)) → FairRule (on_one line)
-  single line fair [] alt = tt
-  single line fair (a ∷ items) alt = fair a
+  single : (rule : Item → Row) → ((a : Item) → Fair P (rule a)) → FairRule (on_one rule)
+  single rule fair [] alt = tt
+  single rule fair (a ∷ items) alt = fair a
 
-  double : (line : Item → Item → Row) → ((a b : Item) → Fair P (line a b)) → FairRule (on_two line)
-  double line fair [] alt = tt
-  double line fair (b ∷ []) alt = tt
-  double line fair (b ∷ a ∷ items) alt = fair a b
+  double : (rule : Item → Item → Row) → ((a b : Item) → Fair P (rule a b)) → FairRule (on_two rule)
+  double rule fair [] alt = tt
+  double rule fair (b ∷ []) alt = tt
+  double rule fair (b ∷ a ∷ items) alt = fair a b
 
-  triple : (line : Item → Item → Item → Row) → ((a b c : Item) → Fair P (line a b c)) → FairRule (on_three line)
-  triple line fair [] alt = tt
-  triple line fair (c ∷ []) alt = tt
-  triple line fair (c ∷ b ∷ []) alt = tt
-  triple line fair (c ∷ b ∷ a ∷ items) alt = fair a b c
+  triple : (rule : Item → Item → Item → Row) → ((a b c : Item) → Fair P (rule a b c)) → FairRule (on_three rule)
+  triple rule fair [] alt = tt
+  triple rule fair (c ∷ []) alt = tt
+  triple rule fair (c ∷ b ∷ []) alt = tt
+  triple rule fair (c ∷ b ∷ a ∷ items) alt = fair a b c
 
-  of_alt : (line : Item → Row) → ((a : Item) → Fair P (line a)) → FairRule (on_alt line)
-  of_alt line fair items [] = tt
-  of_alt line fair items (a ∷ alt) = fair a
+  of_alt : (rule : Item → Row) → ((a : Item) → Fair P (rule a)) → FairRule (on_alt rule)
+  of_alt rule fair items [] = tt
+  of_alt rule fair items (a ∷ alt) = fair a
 
-  numbered : (line : ℤ → Row) → ((x : ℤ) → Fair P (line x)) → (x : Option ℤ) → Fair P (with_number line x)
-  numbered line fair None = tt
-  numbered line fair (Some x) = fair x
+  numbered : (rule : ℤ → Row) → ((x : ℤ) → Fair P (rule x)) → (x : Option ℤ) → Fair P (with_number rule x)
+  numbered rule fair None = tt
+  numbered rule fair (Some x) = fair x
 
-  number : (line : ℤ → Row) → ((x : ℤ) → Fair P (line x)) → FairRule (on_number line)
-  number line fair = single (λ a. with_number line (num a)) (λ a. numbered line fair (num a))
+  number : (rule : ℤ → Row) → ((x : ℤ) → Fair P (rule x)) → FairRule (on_number rule)
+  number rule fair = single (λ a. with_number rule (num a)) (λ a. numbered rule fair (num a))
 
-  two_numbers : (line : ℤ → ℤ → Row) → ((x y : ℤ) → Fair P (line x y)) → FairRule (on_two_numbers line)
-  two_numbers line fair =
-      double (λ a b. with_number (λ x. with_number (line x) (num b)) (num a)) (λ a b.
-      numbered (λ x. with_number (line x) (num b)) (λ x. numbered (line x) (fair x) (num b)) (num a))
+  two_numbers : (rule : ℤ → ℤ → Row) → ((x y : ℤ) → Fair P (rule x y)) → FairRule (on_two_numbers rule)
+  two_numbers rule fair =
+      double (λ a b. with_number (λ x. with_number (rule x) (num b)) (num a)) (λ a b.
+      numbered (λ x. with_number (rule x) (num b)) (λ x. numbered (rule x) (fair x) (num b)) (num a))
 
-  three_numbers : (line : ℤ → ℤ → ℤ → Row) → ((x y z : ℤ) → Fair P (line x y z)) → FairRule (on_three_numbers line)
-  three_numbers line fair =
-      triple (λ a b c. with_number (λ x. with_number (λ y. with_number (line x y) (num c)) (num b)) (num a)) (λ a b c.
-      numbered (λ x. with_number (λ y. with_number (line x y) (num c)) (num b)) (λ x.
-      numbered (λ y. with_number (line x y) (num c)) (λ y. numbered (line x y) (fair x y) (num c)) (num b)) (num a))
+  three_numbers : (rule : ℤ → ℤ → ℤ → Row) → ((x y z : ℤ) → Fair P (rule x y z)) → FairRule (on_three_numbers rule)
+  three_numbers rule fair =
+      triple (λ a b c. with_number (λ x. with_number (λ y. with_number (rule x y) (num c)) (num b)) (num a)) (λ a b c.
+      numbered (λ x. with_number (λ y. with_number (rule x y) (num c)) (num b)) (λ x.
+      numbered (λ y. with_number (rule x y) (num c)) (λ y. numbered (rule x y) (fair x y) (num c)) (num b)) (num a))
 
-  sized : (line : Item → ℤ → Row) → ((a : Item) (n : ℤ) → Fair P (line a n)) → FairRule (on_size line)
-  sized line fair = double (λ a n. with_number (line a) (num n)) (λ a n. numbered (line a) (fair a) (num n))
+  sized : (rule : Item → ℤ → Row) → ((a : Item) (n : ℤ) → Fair P (rule a n)) → FairRule (on_size rule)
+  sized rule fair = double (λ a n. with_number (rule a) (num n)) (λ a n. numbered (rule a) (fair a) (num n))
 
-  parted : (line : Item → ℤ → ℤ → Row) → ((a : Item) (m n : ℤ) → Fair P (line a m n)) → FairRule (on_part line)
-  parted line fair =
-      triple (λ a m n. with_number (λ x. with_number (line a x) (num n)) (num m)) (λ a m n.
-      numbered (λ x. with_number (line a x) (num n)) (λ x. numbered (line a x) (fair a x) (num n)) (num m))
+  parted : (rule : Item → ℤ → ℤ → Row) → ((a : Item) (m n : ℤ) → Fair P (rule a m n)) → FairRule (on_part rule)
+  parted rule fair =
+      triple (λ a m n. with_number (λ x. with_number (rule a x) (num n)) (num m)) (λ a m n.
+      numbered (λ x. with_number (rule a x) (num n)) (λ x. numbered (rule a x) (fair a x) (num n)) (num m))
 
-  counting : (line : ℕ → List Item → Row) → ((n : ℕ) (below : List Item) → Fair P (line n below)) → FairRule (by_count line)
-  counting line fair [] alt = tt
-  counting line fair (a ∷ below) alt = numbered (counted (λ n. line n below)) by_sign (num a)
+  counting : (rule : ℕ → List Item → Row) → ((n : ℕ) (below : List Item) → Fair P (rule n below)) → FairRule (by_count rule)
+  counting rule fair [] alt = tt
+  counting rule fair (a ∷ below) alt = numbered (counted (λ n. rule n below)) by_sign (num a)
     where
-      by_sign : (x : ℤ) → Fair P (counted (λ n. line n below) x)
+      by_sign : (x : ℤ) → Fair P (counted (λ n. rule n below) x)
       by_sign (pos n) = fair n below
       by_sign (negsuc n) = tt
 
-  positive : (line : ℕ → Row) → ((n : ℕ) → Fair P (line n)) → (x : ℤ) → Fair P (counted line x)
-  positive line fair (pos n) = fair n
-  positive line fair (negsuc n) = tt
+  positive : (rule : ℕ → Row) → ((n : ℕ) → Fair P (rule n)) → (x : ℤ) → Fair P (counted rule x)
+  positive rule fair (pos n) = fair n
+  positive rule fair (negsuc n) = tt
 
-  two_counts : (line : ℕ → ℕ → List Item → Row) → ((m n : ℕ) (below : List Item) → Fair P (line m n below)) → FairRule (by_counts line)
-  two_counts line fair [] alt = tt
-  two_counts line fair (n ∷ []) alt = tt
-  two_counts line fair (n ∷ m ∷ below) alt =
+  two_counts : (rule : ℕ → ℕ → List Item → Row) → ((m n : ℕ) (below : List Item) → Fair P (rule m n below)) → FairRule (by_counts rule)
+  two_counts rule fair [] alt = tt
+  two_counts rule fair (n ∷ []) alt = tt
+  two_counts rule fair (n ∷ m ∷ below) alt =
       numbered _ (λ x. numbered _ (λ y. positive _ (λ a. positive _ (λ b. fair a b below) y) x) (num n)) (num m)
 
   of_block : (f : BlockContext → Item) (context : Context) → FairRule (in_block context (λ b. push_row (f b)))
@@ -159,23 +163,23 @@ module _ (P : Option ℕ → Type 0) (none : P None) where
   moving : (under n base : ℕ) → 1 ≤ base → FairRule (moves under n base)
   moving under n base least = needing (under + n) _ (λ items. (least, none))
 
-  stringy : (code pops : ℕ) (a b : Item) (line : Line) → Fair P (string_row code pops a b line)
+  stringy : (code pops : ℕ) (a b : Item) (rule : ItemResult) → Fair P (string_row code pops a b rule)
   stringy code pops a b (Ok item) = (bytes_base-fair code a b item, none)
   stringy code pops a b (Err kind) = tt
 
   string : (code : ℕ) → FairRule (of_string code)
-  string code = single _ (λ a. stringy code 1 a [] (bytes_line code a [] (pos 0) (pos 0)))
+  string code = single _ (λ a. stringy code 1 a [] (bytes_result code a [] (pos 0) (pos 0)))
 
   two_strings : (code : ℕ) → FairRule (of_two_strings code)
-  two_strings code = double _ (λ a b. stringy code 2 a b (bytes_line code a b (pos 0) (pos 0)))
+  two_strings code = double _ (λ a b. stringy code 2 a b (bytes_result code a b (pos 0) (pos 0)))
 
   size_of : (code : ℕ) → FairRule (of_size code)
-  size_of code = sized _ (λ a n. stringy code 2 a [] (bytes_line code a [] (pos 0) n))
+  size_of code = sized _ (λ a n. stringy code 2 a [] (bytes_result code a [] (pos 0) n))
 
   part_of : (code : ℕ) → FairRule (of_part code)
-  part_of code = parted _ (λ a m n. stringy code 3 a [] (bytes_line code a [] m n))
+  part_of code = parted _ (λ a m n. stringy code 3 a [] (bytes_result code a [] m n))
 
-  numeric : (code pops : ℕ) (line : Line) → Fair P (number_row code pops line)
+  numeric : (code pops : ℕ) (rule : ItemResult) → Fair P (number_row code pops rule)
   numeric code pops (Ok item) = (number_base-fair code, none)
   numeric code pops (Err kind) = tt
 
@@ -191,7 +195,7 @@ module _ (P : Option ℕ → Type 0) (none : P None) where
   control : (i : Decoded) (size : ℕ) → ((pops : ℕ) → Fair P (jump_row pops i.target size)) → FairRule (control_rule i size)
   unfolding control_rule
   control i size jumps =
-      line_at-all FairRule (always (Faults BadOpcode)) (control_table i size) i.code bad
+      entry_at-all FairRule (always (Faults BadOpcode)) (control_table i size) i.code bad
       (fixed (does 0 [] 1) (one, none)
       & fixed (jump_row 0 i.target size) (jumps 0)
       & single (jump_if_row i.target size) (λ t. either (is_true t) _ _ (jumps 1) (one, none))
@@ -223,7 +227,7 @@ module _ (P : Option ℕ → Type 0) (none : P None) where
   stack : (code : ℕ) → FairRule (stack_rule code)
   unfolding stack_rule
   stack code =
-      line_at-all FairRule (always (Faults BadOpcode)) stack_table code bad
+      entry_at-all FairRule (always (Faults BadOpcode)) stack_table code bad
       (dropping 2 2 (omega arith)
       & copying 0 2 2 (omega arith)
       & copying 0 3 3 (omega arith)
@@ -246,7 +250,7 @@ module _ (P : Option ℕ → Type 0) (none : P None) where
   strings : (code : ℕ) → FairRule (string_rule code)
   unfolding string_rule
   strings code =
-      line_at-all FairRule (always (Faults BadOpcode)) string_table code bad
+      entry_at-all FairRule (always (Faults BadOpcode)) string_table code bad
       (two_strings 0x7e
       & part_of 0x7f
       & size_of 0x80
@@ -263,16 +267,16 @@ module _ (P : Option ℕ → Type 0) (none : P None) where
 
   of_count : (code : ℕ) → FairRule (of_numbers code)
   of_count code =
-      line_at-all FairRule (always (Faults BadOpcode)) ((1, of_number code) ∷ (2, of_two_numbers code) ∷ (3, of_three_numbers code) ∷ []) (number_count code) bad
-      (number _ (λ x. numeric code 1 (number_line code x (pos 0) (pos 0)))
-      & two_numbers _ (λ x y. numeric code 2 (number_line code x y (pos 0)))
-      & three_numbers _ (λ x y z. numeric code 3 (number_line code x y z))
+      entry_at-all FairRule (always (Faults BadOpcode)) ((1, of_number code) ∷ (2, of_two_numbers code) ∷ (3, of_three_numbers code) ∷ []) (number_count code) bad
+      (number _ (λ x. numeric code 1 (number_result code x (pos 0) (pos 0)))
+      & two_numbers _ (λ x y. numeric code 2 (number_result code x y (pos 0)))
+      & three_numbers _ (λ x y z. numeric code 3 (number_result code x y z))
       & tt)
 
   numbers : (code : ℕ) → FairRule (number_rule code)
   unfolding number_rule
   numbers code =
-      line_at-all FairRule (of_numbers code) number_table code (of_count code)
+      entry_at-all FairRule (of_numbers code) number_table code (of_count code)
       (double _ (λ a b. (omega arith, none))
       & double _ (λ a b. (omega arith, none))
       & two_numbers numequalverify_row (λ x y. either (int_eq x y) _ _ (omega arith, none) tt)
@@ -294,10 +298,10 @@ module _ (P : Option ℕ → Type 0) (none : P None) where
       (either (ltb (length below) (n + 1 + m)) _ _ tt
       (either (eqb (length (message_in n below)) 32) _ _ (omega arith, none) tt))
 
-  of_tx : (line : TxContext → Rule) → ((t : TxContext) → FairRule (line t)) → (context : Context) → FairRule (in_tx context line)
-  of_tx line fair Nothing items alt = tt
-  of_tx line fair (Tx t) items alt = fair t items alt
-  of_tx line fair (Block b) items alt = tt
+  of_tx : (rule : TxContext → Rule) → ((t : TxContext) → FairRule (rule t)) → (context : Context) → FairRule (in_tx context rule)
+  of_tx rule fair Nothing items alt = tt
+  of_tx rule fair (Tx t) items alt = fair t items alt
+  of_tx rule fair (Block b) items alt = tt
 
   tx_item : (f : TxContext → Item) (context : Context) → FairRule (in_tx context (λ t. always (push_row (f t))))
   tx_item f = of_tx (λ t. always (push_row (f t))) (λ t items alt. (one, none))
@@ -311,8 +315,8 @@ module _ (P : Option ℕ → Type 0) (none : P None) where
   output None refdata amount asset version_1 program = tt
   output (Some o) refdata amount asset version_1 program = (omega arith, none)
 
-  checking : (t : TxContext) → FairRule (on_told (output_at t))
-  unfolding on_told on_numbers
+  checking : (t : TxContext) → FairRule (on_wanted (output_at t))
+  unfolding on_wanted on_numbers
   checking t = needing 6 _ (λ items.
       numbered _ (λ x. numbered _ (λ y. numbered _ (λ z.
       positive _ (λ p. positive _ (λ n. output (slice_get t.outs p) _ n _ _ _) y) x) (num (item_at 1 items))) (num (item_at 3 items))) (num (item_at 5 items)))
@@ -324,10 +328,10 @@ module _ (P : Option ℕ → Type 0) (none : P None) where
   contexts : (context : Context) (code : ℕ) → FairRule (context_rule context code)
   unfolding context_rule
   contexts context code =
-      line_at-all FairRule (always (Faults BadOpcode)) (context_table context) code bad
+      entry_at-all FairRule (always (Faults BadOpcode)) (context_table context) code bad
       (of_tx (λ t. always (sig_hash_row t)) (λ t items alt. (omega arith, none)) context
       & of_block (λ b. b.block_id) context
-      & of_tx (λ t. on_told (output_at t)) checking context
+      & of_tx (λ t. on_wanted (output_at t)) checking context
       & tx_item (λ t. t.asset) context
       & tx_item (λ t. num_bytes (pos t.amount)) context
       & fixed (program_row context) (program context)
@@ -342,10 +346,10 @@ module _ (P : Option ℕ → Type 0) (none : P None) where
       & of_block (λ b. num_bytes (pos b.time)) context
       & tt)
 
-  others : (context : Context) (check : Check) (code : ℕ) → FairRule (other_rule context check code)
-  unfolding other_rule
+  others : (context : Context) (check : Check) (code : ℕ) → FairRule (high_rule context check code)
+  unfolding high_rule
   others context check code =
-      line_at-all FairRule (context_rule context code) (other_table check) code (contexts context code)
+      entry_at-all FairRule (context_rule context code) (high_table check) code (contexts context code)
       (string 0xa8
       & triple (signature_row check) (λ s m k. either (eqb (length m) 32) _ _ (omega arith, none) tt)
       & two_counts (signatures_row check) (signatures check)
@@ -368,6 +372,6 @@ jumping size pops place =
 pub row-fair : (context : Context) (check : Check) (i : Decoded) (size : ℕ) (items alt : List Item) → Fair (Within size) (row context check i size items alt)
 row-fair context check i size = lines (Within size) tt context check i size (control (Within size) tt i size (λ pops. jumping size pops i.target))
 
--- an instruction that is no jump goes on behind itself
+-- an instruction that is no jump goes on after itself
 pub row-straight : (context : Context) (check : Check) (i : Decoded) (size : ℕ) → is_jump i.code ≡ false → (items alt : List Item) → Fair (λ jump. jump ≡ None) (row context check i size items alt)
 row-straight context check i size straight = lines (λ jump. jump ≡ None) refl context check i size (straight_control (λ jump. jump ≡ None) refl i size straight)

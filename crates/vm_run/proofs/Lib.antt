@@ -9,4 +9,4 @@ pub mod Pushed
 pub mod Runs
 pub mod Stretches
 pub mod Small
-mod Told
+mod Wanted

@@ -2,7 +2,8 @@
 use Rattle.std.proofs.Common.{◌≡◌, ℕ, zero, suc, ◌+◌, ◌-◌, ◌<◌, ◌≤◌, List, [], length, reverse, refl, sym, ◌∙◌, ap, inl, inr, arith}
 use Rattle.std.proofs.lemmas.Bool.{cases_lt}
 use Rattle.vm_num.specs.Item.{Item, total_cost}
-use Rattle.vm_run.specs.Row.{Context, Check}
+use Rattle.vm_run.specs.Row.{Context}
+use Rattle.keyed.specs.Functions.{Check}
 use Rattle.vm_run.specs.Run.{Outcome, Ended, FailedAt, later, count_of, Child, Move, Stops, Goes, Opens, move, spent_in, lost_in, with_result, left_behind, Run, at_end, fails, goes_on, opens}
 use Rattle.vm_run.specs.Stretch.{RunIn}
 use Rattle.vm_num.specs.declared.failure.Failure.TheVariants.{RunLimit}
@@ -75,7 +76,7 @@ pub for_ok : {T E : Type 0} {P Q : T → Type 0} (r : Result T E) → ((x : T) �
 for_ok (Ok x) each p = each x p
 for_ok (Err e) each p = tt
 
-pub from_run : (context : Context) (check : Check) (program : List ℕ) (items : List Item) (left : ℕ) (s : Stacks) (m : Machine) (end : End) (verdict : Verdict) → s ≡ record { items = items; alt = [] } → Ends context check program (record { stack = s; left = left; at = 0 }) (Ok end) m → VerdictOf (length program) end m verdict → VerdictFrom context check program items left verdict
+pub from_run : (context : Context) (check : Check) (program : List ℕ) (items : List Item) (left : ℕ) (s : Stacks) (m : Machine) (end : End) (verdict : Verdict) → s ≡ record { items = items; alt = [] } → Ends context check program (record { stack = s; left = left; at = 0 }) end m → VerdictOf (length program) end m verdict → VerdictFrom context check program items left verdict
 from_run context check program items left s m ends.Ended verdict piled run says =
     let o = Ended m.left m.stack.items m.stack.alt run.0 run.1 run.2 in
     (o, subst (λ (t : Stacks). Run context check program 0 t.items t.alt left o) piled run.3, says run.0 run.1 run.2)

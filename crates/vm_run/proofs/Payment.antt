@@ -21,7 +21,7 @@ module _ (behind limit : ℕ) (items alt : List Item) (e : Effect) where
   pub covered : e.base ≤ limit → pushed_cost e ≤ limit - e.base + popped_cost e items alt → paid behind items alt limit e ≡ Goes (next_place behind e.jump) (e.pushed ++ drop e.pops items) (e.alt_pushed ++ drop e.alt_pops alt) (limit - e.base + popped_cost e items alt - pushed_cost e) e.base
   covered covers enough = grind (arith, nat_tests)
 
-  -- with this left behind it, and these stacks
+  -- with this left after it, and these stacks
   pub pays : (left : ℕ) (items' alt' : List Item) → e.base ≤ limit → left + e.base + pushed_cost e ≡ limit + popped_cost e items alt → items' ≡ e.pushed ++ drop e.pops items → alt' ≡ e.alt_pushed ++ drop e.alt_pops alt → paid behind items alt limit e ≡ Goes (next_place behind e.jump) items' alt' left (base_of (paid behind items alt limit e))
   pays left items' alt' covers sum on_items on_alt =
       let rest : limit - e.base + popped_cost e items alt - pushed_cost e ≡ left = omega arith in
@@ -55,7 +55,7 @@ module _ (behind limit : ℕ) (items alt : List Item) (program : Item) (asked co
   pub opening : 256 ≤ limit → asked ≤ limit - 256 → opened behind items alt limit program asked count ≡ Opens (record { program = program; items = take count (drop 3 items); limit = child_limit asked (limit - 256) }) behind (drop count (drop 3 items)) alt (limit - 256 - child_limit asked (limit - 256) + 192 + total_cost (take 3 items))
   opening covers enough = rw (le-ltb limit 256 covers, le-ltb (limit - 256) asked enough) refl
 
--- ---- an effect on the data stack of a machine that goes on behind its instruction
+-- ---- an effect on the data stack of a machine that goes on after its instruction
 
 module _ (m m' : Machine) (n : ℕ) (pushed : List Item) (base : ℕ) where
   pub done : base ≤ m.left → m'.left + base + total_cost pushed ≡ m.left + total_cost (take n m.stack.items) → m'.stack ≡ record m.stack { items = pushed ++ drop n m.stack.items } → m'.at ≡ m.at → Follows m (does n pushed base) (Ok tt) m'

@@ -10,7 +10,8 @@ use Rattle.vm_num.specs.Push.{push_of, push_int_of}
 use Rattle.vm_num.proofs.Numbers.{length-num_bytes}
 use Rattle.vm_num.proofs.Pushes.{push_of_minus_one, push_of_zero, push_of_small, push_of_large, push_of_negative}
 use Rattle.vm_code.specs.Instruction.{Decoded, Misread, instruction_at, decoded, decoded_front, data_at, counted_at, little_endian, plain}
-use Rattle.vm_run.specs.Row.{Context, Check, row, push_row}
+use Rattle.vm_run.specs.Row.{Context, row, push_row}
+use Rattle.keyed.specs.Functions.{Check}
 use Rattle.vm_run.specs.Pushes.{ReadsData, ReadsPush}
 
 -- ---- what is read at the place of a code
@@ -20,7 +21,7 @@ unfolding instruction_at
 read_there code behind before after =
     ap decoded_front (ap (drop (length before)) (append_assoc before (code ∷ behind) after) ∙ drop_at before (code ∷ behind ++ after) (length before) refl)
 
--- ---- data behind a field
+-- ---- data after a field
 
 abbrev data_of : ℕ → ℕ → Item → Decoded
 data_of code field item = record { code = code; pushed = item; target = 0; len = 1 + field + length item }
@@ -33,7 +34,7 @@ data_whole code field item after =
     let front : take (length item) (drop (length field) ((field ++ item) ++ after)) ≡ item = ap (take (length item)) behind ∙ take_at item after (length item) refl in
     rw (le-leb (length field + length item) (length ((field ++ item) ++ after)) long) (ap (λ l. Ok (record { code = code; pushed = l; target = 0; len = 1 + length field + length item })) front)
 
--- the same behind a field that says the count
+-- the same after a field that says the count
 pub counted_whole : (code : ℕ) (field item after : List ℕ) → little_endian field ≡ length item → counted_at code (length field) ((field ++ item) ++ after) ≡ Ok (data_of code (length field) item)
 counted_whole code field item after says =
     let joined : (field ++ item) ++ after ≡ field ++ (item ++ after) = append_assoc field item after in
@@ -145,7 +146,7 @@ record Pushes (bytes : List ℕ) (item : Item) : Type 0 where
   pub i : Decoded
   pub there : Reads bytes i
   pub len : i.len ≡ length bytes
-  pub line : (context : Context) (check : Check) (size : ℕ) (items alt : List Item) → row context check i size items alt ≡ push_row item
+  pub rule : (context : Context) (check : Check) (size : ℕ) (items alt : List Item) → row context check i size items alt ≡ push_row item
 
 push_item : (item : Item) → length item < 2 ^ 32 → Pushes (push_of item) item
 push_item item h =
@@ -154,11 +155,11 @@ push_item item h =
       i = r.i;
       there = r.there;
       len = r.len;
-      line = λ context check size items alt. row-data context check r.i size items alt r.code ∙ ap push_row r.pushed;
+      rule = λ context check size items alt. row-data context check r.i size items alt r.code ∙ ap push_row r.pushed;
     }
 
 reads_push : (bytes before after : List ℕ) (item : Item) → Pushes bytes item → ReadsPush (instruction_at (before ++ bytes ++ after) (length before)) item (length bytes)
-reads_push bytes before after item p = subst (λ (read : Result Decoded Misread). ReadsPush read item (length bytes)) (sym (p.there before after)) (p.len, p.line)
+reads_push bytes before after item p = subst (λ (read : Result Decoded Misread). ReadsPush read item (length bytes)) (sym (p.there before after)) (p.len, p.rule)
 
 pub reads_item : (item before after : List ℕ) → length item < 2 ^ 32 → ReadsPush (instruction_at (before ++ push_of item ++ after) (length before)) item (length (push_of item))
 reads_item item before after h = reads_push (push_of item) before after item (push_item item h)
@@ -187,7 +188,7 @@ push_small n some small = record {
   i = plain (80 + n);
   there = λ before after. read_there (80 + n) [] before after ∙ decoded_small n after some small;
   len = refl;
-  line = λ context check size items alt. row_small context check n size items alt some small;
+  rule = λ context check size items alt. row_small context check n size items alt some small;
 }
 
 push_minus_one : Pushes (79 ∷ []) (num_bytes (negsuc 0))
@@ -195,7 +196,7 @@ push_minus_one = record {
   i = plain 79;
   there = λ before after. read_there 79 [] before after;
   len = refl;
-  line = row_minus_one;
+  rule = row_minus_one;
 }
 
 push_zero : Pushes (0 ∷ []) (num_bytes (pos 0))
@@ -203,7 +204,7 @@ push_zero = record {
   i = plain 0;
   there = λ before after. read_there 0 [] before after;
   len = refl;
-  line = row_empty;
+  rule = row_empty;
 }
 
 push_other : (z : ℤ) → Pushes (push_of (num_bytes z)) (num_bytes z)

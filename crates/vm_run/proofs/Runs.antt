@@ -6,11 +6,12 @@ use Rattle.std.proofs.lemmas.List.Sorted.{IsPermutation-reverse, sum_by-IsPermut
 use Rattle.vm_num.specs.Item.{Item, cost, total_cost}
 use Rattle.vm_code.specs.Instruction.{Decoded, Misread, instruction_at}
 use Rattle.vm_code.proofs.Longer.{within}
-use Rattle.vm_run.specs.Row.{Context, Check, Row, Faults, Does, Calls, Effect, row}
+use Rattle.vm_run.specs.Row.{Context, Row, Faults, Does, Calls, Effect, row}
+use Rattle.keyed.specs.Functions.{Check}
 use Rattle.vm_run.specs.Run.{Outcome, Ended, FailedAt, later, count_of, Child, Move, Stops, Goes, Opens, popped_cost, pushed_cost, next_place, paid, opened, row_move, instruction_move, move, top_is_true, is_good, spent_in, lost_in, given_back, with_result, left_behind, Run, at_end, fails, goes_on, opens}
 use Rattle.vm_run.specs.Stretch.{State, RunIn, Completes, alone, with_child, Steps, none, and_one}
 use Rattle.vm_run.specs.Laws.{held}
-use Rattle.vm_ops.specs.Line.{truth_item}
+use Rattle.vm_ops.specs.Results.{truth_item}
 use Rattle.vm_run.specs.Verdict.{RunOn}
 use Rattle.vm_run.specs.Making.{calls}
 use Rattle.vm_run.specs.Follows.{IsOpened, call_move}
@@ -78,7 +79,7 @@ Keeps size items alt limit (Opens child place items' alt' left) =
     × (192 ≤ left)
     × (place ≤ size)
 
--- the items behind some that take the place of others
+-- the items after some that take the place of others
 replaced : (n : ℕ) (items pushed : List Item) → total_cost (pushed ++ drop n items) + total_cost (take n items) ≡ total_cost items + total_cost pushed
 replaced n items pushed = omega (arith, cost-split n items, sum_by-append cost pushed (drop n items))
 
@@ -108,7 +109,7 @@ opened-keeps size behind items alt limit program asked count inside = elim (case
   ]
 ]
 
-row-keeps : (size behind : ℕ) (items alt : List Item) (limit : ℕ) (line : Row) → behind ≤ size → Fair (Within size) line → Keeps size items alt limit (row_move behind items alt limit line)
+row-keeps : (size behind : ℕ) (items alt : List Item) (limit : ℕ) (rule : Row) → behind ≤ size → Fair (Within size) rule → Keeps size items alt limit (row_move behind items alt limit rule)
 row-keeps size behind items alt limit (Faults kind) inside fair = tt
 row-keeps size behind items alt limit (Does e) inside fair = paid-keeps size behind items alt limit e inside fair
 row-keeps size behind items alt limit (Calls program asked count) inside fair = opened-keeps size behind items alt limit program asked count inside
@@ -152,7 +153,7 @@ cost-truth : (b : Bool) → cost (truth_item b) ≤ 9
 cost-truth true = omega arith
 cost-truth false = omega arith
 
--- what is left and held behind a child, with what it spent and lost, is what there was before it
+-- what is left and held after a child, with what it spent and lost, is what there was before it
 pub behind-child : (size : ℕ) (items alt : List Item) (limit : ℕ) (child : Child) (place : ℕ) (items' alt' : List Item) (left : ℕ) (inner : Outcome) → Keeps size items alt limit (Opens child place items' alt' left) → Balanced (child.limit + total_cost child.items) inner → (left_behind inner left + (total_cost (with_result inner items') + total_cost alt') + (spent_in inner + 64) + lost_in child inner ≡ limit + (total_cost items + total_cost alt)) × (count_of inner + 1 ≤ spent_in inner + 64 + lost_in child inner)
 behind-child size items alt limit child place items' alt' left inner keeps balanced =
     let child_settled = settled child inner balanced in

@@ -6,18 +6,19 @@ use Rattle.vm_num.specs.Item.{Item, is_true}
 use Rattle.vm_num.specs.declared.failure.Failure.TheVariants.{BadOpcode, BadJump, FailCode}
 use Rattle.vm_code.specs.Instruction.{Decoded, Misread, instruction_at, is_jump}
 use Rattle.vm_code.proofs.Longer.{within, begun, fronted}
-use Rattle.vm_ops.specs.Line.{line_at}
+use Rattle.vm_ops.specs.Results.{entry_at}
 use Rattle.vm_run.specs.Effect.{Effect, Row, Faults, Does, Calls, Rule, does, always, on_one, on_alt}
 use Rattle.vm_run.specs.Moving.{push_rule, jump_row, jump_if_row, verify_row, to_alt_row, from_alt_row, control_table, control_rule, stack_rule}
-use Rattle.vm_run.specs.Making.{string_rule, number_rule, other_rule}
-use Rattle.vm_run.specs.Row.{Context, Check, row}
+use Rattle.vm_run.specs.Making.{string_rule, number_rule, high_rule}
+use Rattle.vm_run.specs.Row.{Context, row}
+use Rattle.keyed.specs.Functions.{Check}
 use Rattle.vm_run.specs.Run.{Outcome, Ended, FailedAt, later, Move, Stops, Goes, Opens, row_move, instruction_move, move, goes_on, opens, paid, popped_cost, pushed_cost}
 use Rattle.vm_run.specs.Stretch.{State, RunFrom, Completes, alone, with_child, Steps, none, and_one, stretch_move, Stretch, nothing, and_then, further, Straight, no_more, straight_on}
 use Rattle.vm_run.proofs.Fair.{Fair, row-straight}
 use Rattle.vm_run.proofs.Payment.{short_of_base, short_of_price, covered, short_of_opening, short_of_asked, opening}
 use Rattle.vm_run.proofs.Runs.{move-read}
 
--- ---- steps, and runs behind them
+-- ---- steps, and runs after them
 
 later-none : (o : Outcome) → later 0 0 0 o ≡ o
 later-none (Ended left items alt n m k) = same (omega arith) (omega arith) (omega arith)
@@ -79,14 +80,14 @@ AllAlike [] (y ∷ ys) = ⊥
 AllAlike (x ∷ xs) [] = ⊥
 AllAlike (x ∷ xs) (y ∷ ys) = (x.0 ≡ y.0) × Alike x.1 y.1 × AllAlike xs ys
 
-tables_alike : (code : ℕ) (other : Rule) (xs ys : List (ℕ × Rule)) → AllAlike xs ys → Alike (line_at other xs code) (line_at other ys code)
+tables_alike : (code : ℕ) (other : Rule) (xs ys : List (ℕ × Rule)) → AllAlike xs ys → Alike (entry_at other xs code) (entry_at other ys code)
 tables_alike code other [] [] all = same other
 tables_alike code other [] (y ∷ ys) all = absurd all
 tables_alike code other (x ∷ xs) [] all = absurd all
 tables_alike code other (x ∷ xs) (y ∷ ys) all =
     let rest = tables_alike code other xs ys all.2 in
-    subst (λ (c : ℕ). Alike (cond (eqb x.0 code) x.1 (line_at other xs code)) (cond (eqb c code) y.1 (line_at other ys code))) all.0
-    (alike_either (eqb x.0 code) x.1 (line_at other xs code) y.1 (line_at other ys code) all.1 rest)
+    subst (λ (c : ℕ). Alike (cond (eqb x.0 code) x.1 (entry_at other xs code)) (cond (eqb c code) y.1 (entry_at other ys code))) all.0
+    (alike_either (eqb x.0 code) x.1 (entry_at other xs code) y.1 (entry_at other ys code) all.1 rest)
 
 -- a move that does not stop
 abbrev Runs : Move → Type 0
@@ -108,9 +109,9 @@ module _ (size size' : ℕ) (longer : size ≤ size') where
       by true passes = jumps 1 place passes
       by false passes = refl
 
-  on_top : (line line' : Item → Row) → ((a : Item) → Passes (line a) → line' a ≡ line a) → Alike (on_one line) (on_one line')
-  on_top line line' alike [] alt passes = refl
-  on_top line line' alike (a ∷ items) alt passes = alike a passes
+  on_top : (rule line' : Item → Row) → ((a : Item) → Passes (rule a) → line' a ≡ rule a) → Alike (on_one rule) (on_one line')
+  on_top rule line' alike [] alt passes = refl
+  on_top rule line' alike (a ∷ items) alt passes = alike a passes
 
   control : (i : Decoded) → Alike (control_rule i size) (control_rule i size')
   unfolding control_rule
@@ -144,11 +145,11 @@ module _ (size size' : ℕ) (longer : size ≤ size') where
   row_longer : (context : Context) (check : Check) (i : Decoded) (items alt : List Item) → Passes (row context check i size items alt) → row context check i size' items alt ≡ row context check i size items alt
   unfolding row
   row_longer context check i =
-      let past = cond (leb i.code 0x7d) (stack_rule i.code) (cond (leb i.code 0x89) (string_rule i.code) (cond (leb 0x8b i.code && leb i.code 0xa5) (number_rule i.code) (other_rule context check i.code))) in
+      let past = cond (leb i.code 0x7d) (stack_rule i.code) (cond (leb i.code 0x89) (string_rule i.code) (cond (leb 0x8b i.code && leb i.code 0xa5) (number_rule i.code) (high_rule context check i.code))) in
       alike_either (leb i.code 0x60) (push_rule i) _ (push_rule i) _ (same (push_rule i))
       (alike_either (leb i.code 0x6c) (control_rule i size) past (control_rule i size') past (control i) (same past))
 
-  row_goes : (place : ℕ) (items alt : List Item) (limit : ℕ) (line line' : Row) → (Passes line → line' ≡ line) → Runs (row_move place items alt limit line) → row_move place items alt limit line' ≡ row_move place items alt limit line
+  row_goes : (place : ℕ) (items alt : List Item) (limit : ℕ) (rule line' : Row) → (Passes rule → line' ≡ rule) → Runs (row_move place items alt limit rule) → row_move place items alt limit line' ≡ row_move place items alt limit rule
   row_goes place items alt limit (Faults kind) line' alike goes = absurd goes
   row_goes place items alt limit (Does e) line' alike goes = ap (row_move place items alt limit) (alike tt)
   row_goes place items alt limit (Calls program asked count) line' alike goes = ap (row_move place items alt limit) (alike tt)
@@ -205,7 +206,7 @@ module _ (context : Context) (check : Check) where
       let long : length (before ++ code ++ after) ≡ length before + length code + length after = simp length-append refl in
       and_then (omega arith) (omega arith) (part_move from code before after s t n m k since done) (within_stretch from code before after rest)
 
-  -- one stretch of instructions behind another
+  -- one stretch of instructions after another
   pub joined : (from : ℕ) (code : List ℕ) → {s t end : State} {n n' m m' k k' : ℕ} → Stretch context check from code s n m k t → Stretch context check from code t n' m' k' end → Stretch context check from code s (n' + n) (m' + m) (k' + k) end
   joined from code {s} {end = end} {n' = n} {m' = m} {k' = k} nothing rest = recounted (λ n m k. Stretch context check from code s n m k end) n _ m _ k _ (omega arith) (omega arith) (omega arith) rest
   joined from code {s} {end = end} {n' = n'} {m' = m'} {k' = k'} (and_then {n = a} {m = b} {k = c} {count = n} {spent = m} {lost = k} since before done steps) rest =
@@ -229,7 +230,7 @@ module _ (n behind : ℕ) (items alt : List Item) (limit : ℕ) where
     ]
   ]
 
-  row_shifted : (line : Row) → Fair (λ jump. jump ≡ None) line → row_move (n + behind) items alt limit line ≡ shifted n (row_move behind items alt limit line)
+  row_shifted : (rule : Row) → Fair (λ jump. jump ≡ None) rule → row_move (n + behind) items alt limit rule ≡ shifted n (row_move behind items alt limit rule)
   row_shifted (Faults kind) fair = refl
   row_shifted (Does e) fair = paid_shifted e fair.1
   row_shifted (Calls program asked count) fair = elim (cases_lt limit 256) [
@@ -250,12 +251,12 @@ module _ (context : Context) (check : Check) (from : ℕ) (code : List ℕ) wher
   straight_move s t i n spent lost reads straight done =
       let place : from + s.place - from ≡ s.place = omega arith in
       let behind : from + s.place + i.len ≡ from + (s.place + i.len) = omega arith in
-      let line = row context check i (length code) s.items s.alt in
-      let further_on = row_shifted from (s.place + i.len) s.items s.alt s.left line (row-straight context check i (length code) straight s.items s.alt) in
+      let rule = row context check i (length code) s.items s.alt in
+      let further_on = row_shifted from (s.place + i.len) s.items s.alt s.left rule (row-straight context check i (length code) straight s.items s.alt) in
       let there = subst (λ (m : Move). Completes context check m (further from t) n spent lost) (sym further_on) (moved _ done) in
       rw (place, reads, behind)
       (subst (λ (m : Move). Completes context check m (further from t) n spent lost)
-      (sym (row_goes (length code) (from + length code) (omega arith) (from + (s.place + i.len)) s.items s.alt s.left line (row context check i (from + length code) s.items s.alt) (row_longer (length code) (from + length code) (omega arith) context check i s.items s.alt) (runs context check _ there))) there)
+      (sym (row_goes (length code) (from + length code) (omega arith) (from + (s.place + i.len)) s.items s.alt s.left rule (row context check i (from + length code) s.items s.alt) (row_longer (length code) (from + length code) (omega arith) context check i s.items s.alt) (runs context check _ there))) there)
 
   pub anywhere : {s t : State} {n spent lost : ℕ} → Straight context check code s n spent lost t → Stretch context check from code (further from s) n spent lost (further from t)
   anywhere no_more = nothing

@@ -1,7 +1,7 @@
 -- What an instruction does to the stacks, and what it needs of them. What a program is run for, `Context`, is the type
 -- that the code has.
-use Rattle.std.specs.Prelude.{ℕ, ◌<◌, ◌^◌, Bool, List, [], ◌∷◌, length, Option, Some, None}
-use Rattle.std.specs.Prelude.{if◌then◌else◌, nat_le, ℤ, pos, negsuc}
+use Rattle.std.specs.Prelude.{ℕ, ◌<◌, ◌^◌, List, [], ◌∷◌, length, Option, Some, None, if◌then◌else◌, nat_le, ℤ}
+use Rattle.std.specs.Prelude.{pos, negsuc}
 use Rattle.vm_num.specs.Item.{Item, num}
 use Rattle.vm_num.specs.declared.failure.Failure.{Failure}
 use Rattle.vm_num.specs.declared.failure.Failure.TheVariants.{Underflow, AltUnderflow, BadNumber, BadValue}
@@ -22,10 +22,6 @@ abbrev pub NumbersFit : Context → Type 0
 NumbersFit Nothing = Unit {0}
 NumbersFit (Tx t) = TxFits t
 NumbersFit (Block b) = b.time < 2 ^ 63
-
--- whether a signature is good, by the key, the message and the signature
-abbrev pub Check : Type 0
-Check = List ℕ → List ℕ → List ℕ → Bool
 
 -- How many items are popped off the data stack and the items that are pushed in their place, the top first; the same of
 -- the alt stack; the base cost; and the place that is jumped to, if any. An item that is moved is popped and pushed.
@@ -68,66 +64,66 @@ always row items alt = row
 
 -- so many items
 abbrev pub needs : ℕ → (List Item → Row) → Rule
-needs n line items alt = if nat_le n (length items) then line items else Faults Underflow
+needs n rule items alt = if nat_le n (length items) then rule items else Faults Underflow
 
 -- one item, two and three, the deepest first
 abbrev pub on_one : (Item → Row) → Rule
-on_one line [] alt = Faults Underflow
-on_one line (a ∷ items) alt = line a
+on_one rule [] alt = Faults Underflow
+on_one rule (a ∷ items) alt = rule a
 
 abbrev pub on_two : (Item → Item → Row) → Rule
-on_two line [] alt = Faults Underflow
-on_two line (b ∷ []) alt = Faults Underflow
-on_two line (b ∷ a ∷ items) alt = line a b
+on_two rule [] alt = Faults Underflow
+on_two rule (b ∷ []) alt = Faults Underflow
+on_two rule (b ∷ a ∷ items) alt = rule a b
 
 abbrev pub on_three : (Item → Item → Item → Row) → Rule
-on_three line [] alt = Faults Underflow
-on_three line (c ∷ []) alt = Faults Underflow
-on_three line (c ∷ b ∷ []) alt = Faults Underflow
-on_three line (c ∷ b ∷ a ∷ items) alt = line a b c
+on_three rule [] alt = Faults Underflow
+on_three rule (c ∷ []) alt = Faults Underflow
+on_three rule (c ∷ b ∷ []) alt = Faults Underflow
+on_three rule (c ∷ b ∷ a ∷ items) alt = rule a b c
 
 -- an item of the alt stack
 abbrev pub on_alt : (Item → Row) → Rule
-on_alt line items [] = Faults AltUnderflow
-on_alt line items (a ∷ alt) = line a
+on_alt rule items [] = Faults AltUnderflow
+on_alt rule items (a ∷ alt) = rule a
 
 -- that an item is a number
 abbrev pub with_number : (ℤ → Row) → Option ℤ → Row
-with_number line None = Faults BadNumber
-with_number line (Some n) = line n
+with_number rule None = Faults BadNumber
+with_number rule (Some n) = rule n
 
 -- one, two and three numbers, the deepest first
 abbrev pub on_number : (ℤ → Row) → Rule
-on_number line = on_one (λ a. with_number line (num a))
+on_number rule = on_one (λ a. with_number rule (num a))
 
 abbrev pub on_two_numbers : (ℤ → ℤ → Row) → Rule
-on_two_numbers line = on_two (λ a b. with_number (λ x. with_number (line x) (num b)) (num a))
+on_two_numbers rule = on_two (λ a b. with_number (λ x. with_number (rule x) (num b)) (num a))
 
 abbrev pub on_three_numbers : (ℤ → ℤ → ℤ → Row) → Rule
-on_three_numbers line =
-    on_three (λ a b c. with_number (λ x. with_number (λ y. with_number (line x y) (num c)) (num b)) (num a))
+on_three_numbers rule =
+    on_three (λ a b c. with_number (λ x. with_number (λ y. with_number (rule x y) (num c)) (num b)) (num a))
 
 -- a string and a number, and a string and two numbers, the deepest first
 abbrev pub on_size : (Item → ℤ → Row) → Rule
-on_size line = on_two (λ a n. with_number (line a) (num n))
+on_size rule = on_two (λ a n. with_number (rule a) (num n))
 
 abbrev pub on_part : (Item → ℤ → ℤ → Row) → Rule
-on_part line = on_three (λ a m n. with_number (λ x. with_number (line a x) (num n)) (num m))
+on_part rule = on_three (λ a m n. with_number (λ x. with_number (rule a x) (num n)) (num m))
 
 -- a number on top that counts items, and is not negative; the line takes it and the items below it
 abbrev pub counted : (ℕ → Row) → ℤ → Row
-counted line (pos n) = line n
-counted line (negsuc n) = Faults BadValue
+counted rule (pos n) = rule n
+counted rule (negsuc n) = Faults BadValue
 
 abbrev pub by_count : (ℕ → List Item → Row) → Rule
-by_count line [] alt = Faults Underflow
-by_count line (a ∷ below) alt = with_number (counted (λ n. line n below)) (num a)
+by_count rule [] alt = Faults Underflow
+by_count rule (a ∷ below) alt = with_number (counted (λ n. rule n below)) (num a)
 
 -- a block, and an input of a transaction
 abbrev pub in_block : Context → (BlockContext → Row) → Rule
-in_block (Block b) line = always (line b)
-in_block other line = always (Faults failures.Context)
+in_block (Block b) rule = always (rule b)
+in_block other rule = always (Faults failures.Context)
 
 abbrev pub in_tx : Context → (TxContext → Rule) → Rule
-in_tx (Tx t) line = line t
-in_tx other line = always (Faults failures.Context)
+in_tx (Tx t) rule = rule t
+in_tx other rule = always (Faults failures.Context)

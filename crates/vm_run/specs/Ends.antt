@@ -1,13 +1,13 @@
--- How the code's run ends, against the definitions.
-use Rattle.std.specs.Prelude.{◌≡◌, ℕ, ◌+◌, ◌-◌, Bool, false, List, [], ◌∷◌, length, Result, Ok, Err, if◌then◌else◌}
+-- How the code's run ends, against the definitions. Only contracts of private functions name it.
+use Rattle.std.specs.Prelude.{◌≡◌, ℕ, ◌+◌, ◌-◌, Bool, false, List, [], ◌∷◌, length, if◌then◌else◌}
 use Rattle.vm_run.specs.declared.machine.Machine.{Machine}
-use Rattle.vm_run.specs.declared.memory.NoMemory.{NoMemory}
 use Rattle.vm_run.specs.declared.run.End.{End}
 use Rattle.vm_run.specs.declared.run.End.TheVariants.{Failed}
 use Rattle.vm_run.specs.declared.run.End.TheVariants as ends
-use Rattle.vm_run.specs.Row.{Context, Check}
+use Rattle.vm_run.specs.Row.{Context}
+use Rattle.keyed.specs.Functions.{Check}
 use Rattle.vm_num.specs.Item.{Item, cost}
-use Rattle.vm_ops.specs.Line.{truth_item}
+use Rattle.vm_ops.specs.Results.{truth_item}
 use Rattle.vm_stack.specs.Stacks.{held_cost}
 use Rattle.vm_run.specs.Run.{Outcome, Ended, FailedAt, Run, top_is_true}
 use Rattle.vm_run.specs.Stretch.{RunFrom}
@@ -15,15 +15,14 @@ use Rattle.vm_run.specs.Follows.{state_of}
 use Rattle.vm_run.specs.Verdict.{verdict_of}
 use Rattle.vm_run.specs.declared.verdict.Verdict.{Verdict}
 
--- the run from where a machine stood has an outcome that was answered, with the machine as it was left
-abbrev pub Ends : Context → Check → List ℕ → Machine → Result End NoMemory → Machine → Type 0
-Ends context check program before (Ok ends.Ended) after =
+-- the run from where a machine stood has the outcome of this end, with the machine as it was left
+abbrev pub Ends : Context → Check → List ℕ → Machine → End → Machine → Type 0
+Ends context check program before ends.Ended after =
     (count spent lost : ℕ)
     × RunFrom context check program (state_of before)
     (Ended after.left after.stack.items after.stack.alt count spent lost)
-Ends context check program before (Ok (Failed kind at)) after =
+Ends context check program before (Failed kind at) after =
     (count : ℕ) × RunFrom context check program (state_of before) (FailedAt kind at count)
-Ends context check program before (Err e) after = Unit {0}
 
 -- the verdict is that of every outcome which ends so
 abbrev pub VerdictOf : ℕ → End → Machine → Verdict → Type 0

@@ -1,8 +1,8 @@
--- What the code did to its machine, against the definitions.
+-- What the code did to its machine, against the definitions. Only contracts of private functions name it.
 use Rattle.std.specs.Prelude.{◌≡◌, ◌<◌, ◌≤◌, ℕ, ◌+◌, List, [], ◌∷◌, ◌++◌, length, take, drop, Result, Ok, Err}
 use Rattle.vm_num.specs.Item.{Item, cost, total_cost}
 use Rattle.vm_num.specs.declared.failure.Failure.TheVariants.{RunLimit}
-use Rattle.vm_ops.specs.Line.{Line}
+use Rattle.vm_ops.specs.Results.{ItemResult}
 use Rattle.vm_ops.specs.Bytes.{bytes_base}
 use Rattle.vm_stack.specs.Stacks.{Stacks, item_at}
 use Rattle.vm_run.specs.declared.machine.Machine.{Machine}
@@ -25,18 +25,18 @@ base_of (Stops kind) = 0
 base_of (Goes place items alt left base) = base
 base_of (Opens child place items alt left) = 0
 
--- what an instruction comes to is what was answered, with the machine as it was left; want of memory is free
+-- what an instruction comes to is what was answered, with the machine as it was left; out of memory is free
 abbrev pub Shows : Move → Result (Unit {0}) StepFault → Machine → Type 0
 Shows move (Ok done) m = move ≡ Goes m.at m.stack.items m.stack.alt m.left (base_of move)
 Shows move (Err (Failed kind)) m = move ≡ Stops kind
 Shows move (Err NoMemory) m = Unit {0}
 
--- what CHECKPREDICATE comes to on a machine that stands behind it
+-- what CHECKPREDICATE comes to on a machine that stands after it
 abbrev pub call_move : Machine → Move
 call_move m = row_move m.at m.stack.items m.stack.alt m.left (calls m.stack.items m.stack.alt)
 
 -- The same of a step from these stacks and this limit. A step that came to CHECKPREDICATE has only moved the machine
--- behind it; what the instruction comes to is still to be done there.
+-- after it; what the instruction comes to is still to be done there.
 abbrev pub Leads : Stacks → ℕ → Move → Result Done StepFault → Machine → Type 0
 Leads stack left move (Ok Moved) m = Shows move (Ok tt) m
 Leads stack left move (Ok Called) m = (m.stack ≡ stack) × (m.left ≡ left) × (move ≡ call_move m)
@@ -54,7 +54,7 @@ IsOpened move (Ok o) m =
     m.stack.items m.stack.alt m.left)
 IsOpened move (Err fault) m = Shows move (Err fault) m
 
--- so is a row, on the stacks and the limit of a machine that stands behind its instruction
+-- so is a row, on the stacks and the limit of a machine that stands after its instruction
 abbrev pub Follows : Machine → Row → Result (Unit {0}) StepFault → Machine → Type 0
 Follows before row result after =
     Shows (row_move before.at before.stack.items before.stack.alt before.left row) result after
@@ -87,12 +87,12 @@ Copies before copies (Err (Failed kind)) after = (before.left < total_cost copie
 Copies before copies (Err NoMemory) after = Unit {0}
 
 -- a line of strings gave this item, which costs this to make
-abbrev pub Makes : ℕ → Item → Item → Line → Result ℕ StepFault → Item → Type 0
-Makes code a b line (Ok base) item = (line ≡ Ok item) × (base ≡ bytes_base code a b item)
-Makes code a b line (Err (Failed kind)) item = line ≡ Err kind
-Makes code a b line (Err NoMemory) item = Unit {0}
+abbrev pub Makes : ℕ → Item → Item → ItemResult → Result ℕ StepFault → Item → Type 0
+Makes code a b rule (Ok base) item = (rule ≡ Ok item) × (base ≡ bytes_base code a b item)
+Makes code a b rule (Err (Failed kind)) item = rule ≡ Err kind
+Makes code a b rule (Err NoMemory) item = Unit {0}
 
--- the same of a row, on the stacks and the limit of a machine that stands behind its instruction
+-- the same of a row, on the stacks and the limit of a machine that stands after its instruction
 abbrev pub LeadsBy : Machine → Row → Result Done StepFault → Machine → Type 0
 LeadsBy before row result after =
     Leads before.stack before.left (row_move before.at before.stack.items before.stack.alt before.left row) result after

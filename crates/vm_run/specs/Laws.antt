@@ -1,7 +1,8 @@
 -- What holds of runs and of their parts, for every context, check and program.
 use Rattle.std.specs.Prelude.{◌≡◌, ℕ, ◌+◌, ◌≤◌, List, ◌++◌, length}
 use Rattle.vm_num.specs.Item.{total_cost}
-use Rattle.vm_run.specs.Row.{Context, Check}
+use Rattle.vm_run.specs.Row.{Context}
+use Rattle.keyed.specs.Functions.{Check}
 use Rattle.vm_run.specs.Run.{Outcome, later}
 use Rattle.vm_run.specs.Stretch.{State, RunFrom, Steps, Stretch, further, Straight}
 
@@ -19,7 +20,7 @@ pub record StepLaws (context : Context) (check : Check) (program : List ℕ) : T
       → Steps context check program s n spent lost t
       → s.place ≤ length program
       → t.place ≤ length program
-  -- steps behind steps are steps
+  -- steps after steps are steps
   pub joined : {s t end : State} {n n' spent spent' lost lost' : ℕ}
       → Steps context check program s n spent lost t
       → Steps context check program t n' spent' lost' end

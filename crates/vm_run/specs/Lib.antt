@@ -1,4 +1,4 @@
-pub mod ContextLines
+pub mod Introspection
 pub mod Effect
 pub mod Ends
 pub mod Follows

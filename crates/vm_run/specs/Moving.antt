@@ -1,11 +1,10 @@
 -- The lines that push data and small numbers, jump, test, and move or copy items.
-use Rattle.std.specs.Prelude.{ℕ, ◌+◌, ◌-◌, ◌==◌, List, [], ◌∷◌, ◌++◌, length, take, drop, Some, None, pos}
-use Rattle.std.specs.Prelude.{negsuc, if◌then◌else◌, nat_le, nat_lt}
+use Rattle.std.specs.Prelude.{ℕ, ◌+◌, ◌-◌, ◌==◌, List, [], ◌∷◌, ◌++◌, length, take, drop, Some, None, pos, negsuc}
+use Rattle.std.specs.Prelude.{if◌then◌else◌, nat_le, nat_lt}
 use Rattle.vm_num.specs.Item.{Item, num_bytes, is_true}
-use Rattle.vm_num.specs.declared.failure.Failure.TheVariants.{Underflow, BadOpcode, BadJump, VerifyFalse}
-use Rattle.vm_num.specs.declared.failure.Failure.TheVariants.{FailCode}
+use Rattle.vm_num.specs.declared.failure.Failure.TheVariants.{Underflow, BadOpcode, BadJump, VerifyFalse, FailCode}
 use Rattle.vm_code.specs.Instruction.{Decoded}
-use Rattle.vm_ops.specs.Line.{line_at}
+use Rattle.vm_ops.specs.Results.{entry_at}
 use Rattle.vm_run.specs.Effect.{Row, Faults, Does, does, push_row, Rule, always, needs, on_one, on_two, on_alt}
 use Rattle.vm_run.specs.Effect.{by_count}
 
@@ -72,7 +71,7 @@ control_table i size =
     ∷ []
 
 unfoldable pub control_rule : Decoded → ℕ → Rule
-control_rule i size = line_at (always (Faults BadOpcode)) (control_table i size) i.code
+control_rule i size = entry_at (always (Faults BadOpcode)) (control_table i size) i.code
 
 -- drops the top n items
 abbrev pub drops : ℕ → ℕ → Rule
@@ -131,4 +130,4 @@ stack_table =
     ∷ []
 
 unfoldable pub stack_rule : ℕ → Rule
-stack_rule code = line_at (always (Faults BadOpcode)) stack_table code
+stack_rule code = entry_at (always (Faults BadOpcode)) stack_table code

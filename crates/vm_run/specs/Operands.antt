@@ -1,4 +1,5 @@
--- What the code reads off a data stack for a line, against what the line needs.
+-- What the code reads off a data stack for a line, against what the line needs. Only contracts of private functions
+-- name it.
 use Rattle.std.specs.Prelude.{◌≡◌, ◌<◌, ◌≤◌, ◌^◌, ℕ, ◌+◌, ℤ, Bool, List, ◌∷◌, length, drop, Result, Ok, Err}
 use Rattle.std.specs.Borrow.{Bor}
 use Rattle.vm_num.specs.Item.{Item}
@@ -8,56 +9,56 @@ use Rattle.vm_run.specs.Effect.{Row, Faults, Calls, Rule, on_one, on_two, on_num
 use Rattle.vm_run.specs.Effect.{on_three, on_size, on_part, by_count}
 use Rattle.vm_run.specs.Making.{calls}
 use Rattle.vm_run.specs.Signing.{by_counts}
-use Rattle.vm_run.specs.ContextLines.{on_numbers, on_told}
-use Rattle.vm_run.specs.declared.context_lines.Told.{Told}
+use Rattle.vm_run.specs.Introspection.{on_numbers, on_wanted}
+use Rattle.vm_run.specs.declared.introspection.Wanted.{Wanted}
 
 -- at these items every line of a kind is a failure
 abbrev pub Fails : {Operands : Type 0} → (Operands → Rule) → List Item → Failure → Type 0
-Fails {Operands} rule items kind = (line : Operands) (alt : List Item) → rule line items alt ≡ Faults kind
+Fails {Operands} rule items kind = (row : Operands) (alt : List Item) → rule row items alt ≡ Faults kind
 
 -- one item, and two, the deeper first
-abbrev pub IsOne : List Item → Result (Bor (List ℕ)) Failure → Type 0
-IsOne items (Ok a) = items ≡ a.now ∷ drop 1 items
-IsOne items (Err kind) = Fails on_one items kind
+abbrev pub IsTop : List Item → Result (Bor (List ℕ)) Failure → Type 0
+IsTop items (Ok a) = items ≡ a.now ∷ drop 1 items
+IsTop items (Err kind) = Fails on_one items kind
 
-abbrev pub AreTwo : List Item → Result (Bor (List ℕ) × Bor (List ℕ)) Failure → Type 0
-AreTwo items (Ok p) = items ≡ p.1.now ∷ p.0.now ∷ drop 2 items
-AreTwo items (Err kind) = Fails on_two items kind
+abbrev pub AreTopTwo : List Item → Result (Bor (List ℕ) × Bor (List ℕ)) Failure → Type 0
+AreTopTwo items (Ok p) = items ≡ p.1.now ∷ p.0.now ∷ drop 2 items
+AreTopTwo items (Err kind) = Fails on_two items kind
 
 -- one number, two and three, the deepest first
 abbrev pub IsNumber : List Item → Result ℤ Failure → Type 0
 IsNumber items (Ok x) =
-    (1 ≤ length items) × ((line : ℤ → Row) (alt : List Item) → on_number line items alt ≡ line x)
+    (1 ≤ length items) × ((rule : ℤ → Row) (alt : List Item) → on_number rule items alt ≡ rule x)
 IsNumber items (Err kind) = Fails on_number items kind
 
 abbrev pub AreTwoNumbers : List Item → Result (ℤ × ℤ) Failure → Type 0
 AreTwoNumbers items (Ok p) =
-    (2 ≤ length items) × ((line : ℤ → ℤ → Row) (alt : List Item) → on_two_numbers line items alt ≡ line p.0 p.1)
+    (2 ≤ length items) × ((rule : ℤ → ℤ → Row) (alt : List Item) → on_two_numbers rule items alt ≡ rule p.0 p.1)
 AreTwoNumbers items (Err kind) = Fails on_two_numbers items kind
 
 abbrev pub AreThreeNumbers : List Item → Result (ℤ × ℤ × ℤ) Failure → Type 0
 AreThreeNumbers items (Ok p) =
     (3 ≤ length items)
-    × ((line : ℤ → ℤ → ℤ → Row) (alt : List Item) → on_three_numbers line items alt ≡ line p.0 p.1 p.2)
+    × ((rule : ℤ → ℤ → ℤ → Row) (alt : List Item) → on_three_numbers rule items alt ≡ rule p.0 p.1 p.2)
 AreThreeNumbers items (Err kind) = Fails on_three_numbers items kind
 
 -- a string and a number, and a string and two numbers, the deepest first
 abbrev pub IsSized : List Item → Result (Bor (List ℕ) × ℤ) Failure → Type 0
 IsSized items (Ok p) =
-    (2 ≤ length items) × ((line : Item → ℤ → Row) (alt : List Item) → on_size line items alt ≡ line p.0.now p.1)
+    (2 ≤ length items) × ((rule : Item → ℤ → Row) (alt : List Item) → on_size rule items alt ≡ rule p.0.now p.1)
 IsSized items (Err kind) = Fails on_size items kind
 
 abbrev pub IsPart : List Item → Result (Bor (List ℕ) × ℤ × ℤ) Failure → Type 0
 IsPart items (Ok p) =
     (3 ≤ length items)
-    × ((line : Item → ℤ → ℤ → Row) (alt : List Item) → on_part line items alt ≡ line p.0.now p.1 p.2)
+    × ((rule : Item → ℤ → ℤ → Row) (alt : List Item) → on_part rule items alt ≡ rule p.0.now p.1 p.2)
 IsPart items (Err kind) = Fails on_part items kind
 
 -- a count of items
 abbrev pub IsCount : List Item → Result ℕ Failure → Type 0
 IsCount items (Ok n) =
     (1 ≤ length items)
-    × ((line : ℕ → List Item → Row) (alt : List Item) → by_count line items alt ≡ line n (drop 1 items))
+    × ((rule : ℕ → List Item → Row) (alt : List Item) → by_count rule items alt ≡ rule n (drop 1 items))
 IsCount items (Err kind) = Fails by_count items kind
 
 -- a count of items and a limit, of CHECKPREDICATE
@@ -76,20 +77,20 @@ AreCounts items (Ok p) =
     (2 ≤ length items)
     × (p.0 < 2 ^ 63)
     × (p.1 < 2 ^ 63)
-    × ((line : ℕ → ℕ → List Item → Row) (alt : List Item) → by_counts line items alt ≡ line p.0 p.1 (drop 2 items))
+    × ((rule : ℕ → ℕ → List Item → Row) (alt : List Item) → by_counts rule items alt ≡ rule p.0 p.1 (drop 2 items))
 AreCounts items (Err kind) = Fails by_counts items kind
 
--- what CHECKOUTPUT is told of an output
+-- what CHECKOUTPUT wants of an output
 abbrev pub AreNumbers : (place amount version : Item) → Result (ℕ × ℕ × Bool) Failure → Type 0
 AreNumbers place amount version (Ok p) =
-    (line : ℕ → ℕ → Bool → Row) → on_numbers line place amount version ≡ line p.0 p.1 p.2
+    (rule : ℕ → ℕ → Bool → Row) → on_numbers rule place amount version ≡ rule p.0 p.1 p.2
 AreNumbers place amount version (Err kind) =
-    (line : ℕ → ℕ → Bool → Row) → on_numbers line place amount version ≡ Faults kind
+    (rule : ℕ → ℕ → Bool → Row) → on_numbers rule place amount version ≡ Faults kind
 
-abbrev pub IsTold : List Item → Result Told Failure → Type 0
-IsTold items (Ok told) =
+abbrev pub IsWanted : List Item → Result Wanted Failure → Type 0
+IsWanted items (Ok wanted) =
     (6 ≤ length items)
-    × ((line : ℕ → Item → ℕ → Item → Bool → Item → Row) (alt : List Item)
-    → on_told line items alt
-    ≡ line told.place told.refdata.now told.amount told.asset.now told.version_1 told.program.now)
-IsTold items (Err kind) = Fails on_told items kind
+    × ((rule : ℕ → Item → ℕ → Item → Bool → Item → Row) (alt : List Item)
+    → on_wanted rule items alt
+    ≡ rule wanted.place wanted.refdata.now wanted.amount wanted.asset.now wanted.version_1 wanted.program.now)
+IsWanted items (Err kind) = Fails on_wanted items kind

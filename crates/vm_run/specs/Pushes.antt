@@ -2,7 +2,8 @@
 use Rattle.std.specs.Prelude.{◌≡◌, ℕ, ◌≤◌, List, Result, Ok, Err}
 use Rattle.vm_num.specs.Item.{Item}
 use Rattle.vm_code.specs.Instruction.{Decoded, Misread}
-use Rattle.vm_run.specs.Row.{Context, Check, row, push_row}
+use Rattle.vm_run.specs.Row.{Context, row, push_row}
+use Rattle.keyed.specs.Functions.{Check}
 
 -- an instruction of these bytes of data and of this length is read, by a code that pushes its data, 4e at most
 abbrev pub ReadsData : Result Decoded Misread → Item → ℕ → Type 0

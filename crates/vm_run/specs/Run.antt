@@ -6,8 +6,9 @@ use Rattle.vm_num.specs.declared.failure.Failure.{Failure}
 use Rattle.vm_num.specs.declared.failure.Failure.TheVariants as failures
 use Rattle.vm_code.specs.Instruction.{Decoded, Misread, instruction_at}
 use Rattle.vm_code.specs.Instruction as misread
-use Rattle.vm_ops.specs.Line.{truth_item}
-use Rattle.vm_run.specs.Row.{Context, Check, Effect, Row, Faults, Does, Calls, row}
+use Rattle.vm_ops.specs.Results.{truth_item}
+use Rattle.vm_run.specs.Row.{Context, Effect, Row, Faults, Does, Calls, row}
+use Rattle.keyed.specs.Functions.{Check}
 
 -- how a run ends: at the program's end, with what is left of the limit, the items of both stacks, and the counts of
 -- instructions completed, of what was spent on them and of what was lost in predicates; or in a failure, at a place
@@ -46,7 +47,7 @@ popped_cost e items alt = total_cost (take e.pops items) + total_cost (take e.al
 abbrev pub pushed_cost : Effect → ℕ
 pushed_cost e = total_cost e.pushed + total_cost e.alt_pushed
 
--- behind the instruction, or at the place that is jumped to
+-- after the instruction, or at the place that is jumped to
 abbrev pub next_place : ℕ → Option ℕ → ℕ
 next_place behind None = behind
 next_place behind (Some place) = place
@@ -142,7 +143,7 @@ pub data Run (context : Context) (check : Check) : List ℕ → ℕ → List Ite
       → place < length program
       → move context check program place items alt limit ≡ Stops kind
       → Run context check program place items alt limit (FailedAt kind place 0)
-  -- an instruction completes, and the run goes on behind it, or at the place that it jumps to
+  -- an instruction completes, and the run goes on after it, or at the place that it jumps to
   goes_on :
       {program : List ℕ} {place : ℕ} {items alt : List Item} {limit : ℕ} {next : ℕ} {items' alt' : List Item}
       {left base : ℕ} {outcome whole : Outcome}

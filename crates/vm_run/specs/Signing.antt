@@ -1,18 +1,18 @@
 -- The lines of signatures: CHECKSIG and CHECKMULTISIG.
-use Rattle.std.specs.Prelude.{ℕ, ◌+◌, ◌*◌, ◌&&◌, ◌||◌, List, [], ◌∷◌, length, max}
-use Rattle.std.specs.Prelude.{if◌then◌else◌, nat_eq, nat_lt}
+use Rattle.std.specs.Prelude.{ℕ, ◌+◌, ◌*◌, ◌&&◌, ◌||◌, List, [], ◌∷◌, length, max, if◌then◌else◌, nat_eq, nat_lt}
 use Rattle.vm_num.specs.Item.{Item, num}
 use Rattle.vm_num.specs.declared.failure.Failure.TheVariants.{BadValue, Underflow}
-use Rattle.vm_ops.specs.Line.{truth_item}
+use Rattle.vm_ops.specs.Results.{truth_item}
 use Rattle.vm_ops.specs.Signatures.{is_multi_good, keys_in, message_in, signatures_in}
-use Rattle.vm_run.specs.Effect.{Check, Row, Faults, Rule, does, counted, with_number}
+use Rattle.vm_run.specs.Effect.{Row, Faults, Rule, does, counted, with_number}
+use Rattle.keyed.specs.Functions.{Check}
 
 -- two counts on top, the deeper first, and the items below them
 abbrev pub by_counts : (ℕ → ℕ → List Item → Row) → Rule
-by_counts line [] alt = Faults Underflow
-by_counts line (n ∷ []) alt = Faults Underflow
-by_counts line (n ∷ m ∷ below) alt =
-    with_number (λ x. with_number (λ y. counted (λ a. counted (λ b. line a b below) y) x) (num n)) (num m)
+by_counts rule [] alt = Faults Underflow
+by_counts rule (n ∷ []) alt = Faults Underflow
+by_counts rule (n ∷ m ∷ below) alt =
+    with_number (λ x. with_number (λ y. counted (λ a. counted (λ b. rule a b below) y) x) (num n)) (num m)
 
 -- CHECKSIG: a signature, the message, the key
 abbrev pub signature_row : Check → Item → Item → Item → Row

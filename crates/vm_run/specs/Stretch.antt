@@ -2,7 +2,8 @@
 use Rattle.std.specs.Prelude.{◌≡◌, ℕ, ◌+◌, ◌-◌, ◌<◌, ◌≤◌, false, List, [], length, Ok}
 use Rattle.vm_num.specs.Item.{Item}
 use Rattle.vm_code.specs.Instruction.{Decoded, instruction_at, is_jump}
-use Rattle.vm_run.specs.Row.{Context, Check}
+use Rattle.vm_run.specs.Row.{Context}
+use Rattle.keyed.specs.Functions.{Check}
 use Rattle.vm_run.specs.Run.{Outcome, Child, Move, Goes, Opens, instruction_move, move, Run}
 use Rattle.vm_run.specs.Run.{count_of, spent_in, lost_in, with_result, left_behind}
 

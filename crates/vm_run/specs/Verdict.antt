@@ -4,7 +4,8 @@ use Rattle.vm_num.specs.Item.{Item, total_cost}
 use Rattle.vm_num.specs.declared.failure.Failure.TheVariants.{RunLimit, FalseResult}
 use Rattle.vm_run.specs.declared.verdict.Verdict.{Verdict}
 use Rattle.vm_run.specs.declared.verdict.Verdict.TheVariants.{Succeeded, Failed}
-use Rattle.vm_run.specs.Row.{Context, Check}
+use Rattle.vm_run.specs.Row.{Context}
+use Rattle.keyed.specs.Functions.{Check}
 use Rattle.vm_run.specs.Run.{Outcome, Ended, FailedAt, Run}
 pub use Rattle.vm_run.specs.Run.{top_is_true}
 

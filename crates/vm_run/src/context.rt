@@ -1,3 +1,4 @@
+//! What a program is run for.
 use crate::TxContext;
 use wire::{Bytes, Id};
 

@@ -1,4 +1,4 @@
-// The lines that push data and small numbers, jump and test, and those of the alt stack.
+//! The instructions that push data and small numbers, jump and test, and those of the alt stack.
 ghost use Rattle.std.specs.Prelude.{◌≡◌, ◌<◌, ◌≤◌, ◌+◌, ◌^◌, length, pos};
 ghost use Rattle.vm_stack.specs.Stacks.{held_cost};
 ghost use Rattle.vm_code.specs.Seen.{seen};
@@ -10,7 +10,7 @@ ghost use Rattle.vm_run.specs.Moving.{control_rule};
 
 use crate::StepFault;
 use crate::machine::Machine;
-use crate::operands::one;
+use crate::operands::top;
 use vm_code::Instruction;
 use vm_code::codes::{
     FAIL, FROMALTSTACK, JUMP, JUMPIF, NEGATIVE_ONE, NOP, ONE, PUSHDATA4, SIXTEEN, TOALTSTACK,
@@ -20,7 +20,7 @@ use vm_num::{Failure, truth, write_num};
 
 impl Machine {
     /// The lines of FALSE, of data and of the small numbers.
-    pub fn push_line(&mut self, i: &Instruction<'_>) -> Result<(), StepFault>
+    pub fn push_instruction(&mut self, i: &Instruction<'_>) -> Result<(), StepFault>
         requires code { i.now.code ≤ 0x60 }
         requires small { self.old.left + held_cost self.old.stack < 2 ^ 63 }
         ensures { Follows self.old (push_rule (seen i.now) self.old.stack.items self.old.stack.alt) result self.new }
@@ -45,7 +45,7 @@ impl Machine {
 
     /// The lines of the codes 61 to 6c, in a program of this length.
     #[tactic(auto, unfolding(crate::specs::Moving::control_rule))]
-    pub fn control_line(&mut self, i: &Instruction<'_>, size: u64) -> Result<(), StepFault>
+    pub fn control_instruction(&mut self, i: &Instruction<'_>, size: u64) -> Result<(), StepFault>
         requires small { self.old.left + held_cost self.old.stack < 2 ^ 63 }
         ensures { Follows self.old (control_rule (seen i.now) size self.old.stack.items self.old.stack.alt) result
             self.new }
@@ -54,7 +54,7 @@ impl Machine {
             NOP => self.pay(1),
             JUMP => self.jump(i.target as u64, size),
             JUMPIF => self.jump_if(i.target as u64, size),
-            VERIFY => self.verify(),
+            VERIFY => self.verify_top(),
             FAIL => Err(StepFault::Failed(Failure::FailCode)),
             TOALTSTACK => self.to_alt(),
             FROMALTSTACK => self.from_alt(),
@@ -68,13 +68,9 @@ impl Machine {
         if size < place {
             return Err(StepFault::Failed(Failure::BadJump));
         }
-        match self.pay(1) {
-            Ok(()) => {
-                self.at = place;
-                Ok(())
-            }
-            Err(fault) => Err(fault),
-        }
+        self.pay(1)?;
+        self.at = place;
+        Ok(())
     }
 
     fn jump_if(&mut self, place: u64, size: u64) -> Result<(), StepFault>
@@ -82,7 +78,7 @@ impl Machine {
         ensures { Follows self.old (on_one (jump_if_row place size) self.old.stack.items self.old.stack.alt) result
             self.new }
     {
-        let jumps = truth(one(&self.stack)?);
+        let jumps = truth(top(&self.stack)?);
         if jumps {
             self.pop_and_jump(place, size)
         } else {
@@ -99,20 +95,16 @@ impl Machine {
         if size < place {
             return Err(StepFault::Failed(Failure::BadJump));
         }
-        match self.pop(1, 1) {
-            Ok(()) => {
-                self.at = place;
-                Ok(())
-            }
-            Err(fault) => Err(fault),
-        }
+        self.pop(1, 1)?;
+        self.at = place;
+        Ok(())
     }
 
-    fn verify(&mut self) -> Result<(), StepFault>
+    fn verify_top(&mut self) -> Result<(), StepFault>
         requires small { self.old.left + held_cost self.old.stack < 2 ^ 63 }
         ensures { Follows self.old (on_one verify_row self.old.stack.items self.old.stack.alt) result self.new }
     {
-        let holds = truth(one(&self.stack)?);
+        let holds = truth(top(&self.stack)?);
         if holds {
             self.pop(1, 1)
         } else {

@@ -1,3 +1,4 @@
+//! Why an instruction does not complete.
 ghost use Rattle.std.specs.Prelude.{◌≡◌};
 
 use vm_num::Failure;

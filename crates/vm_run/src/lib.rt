@@ -2,16 +2,15 @@
 #![tactic(auto)]
 
 mod context;
-mod context_lines;
 mod control;
 mod fault;
+mod high;
+mod introspection;
 pub mod laws;
 mod machine;
-mod memory;
 mod moving;
 mod numbers;
 mod operands;
-mod other;
 mod predicate;
 mod run;
 mod signing;
@@ -22,6 +21,6 @@ mod verdict;
 
 pub use context::{BlockContext, Context};
 use fault::StepFault;
-pub use memory::NoMemory;
 pub use transaction::{OutSeen, Outs, TxContext};
 pub use verdict::{Verdict, verify};
+pub use wire::NoMemory;

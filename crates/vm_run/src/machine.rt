@@ -1,4 +1,4 @@
-// The state of a run, and how an effect on it is paid for.
+//! The state of a run, and how an effect on it is paid for.
 ghost use Rattle.std.specs.Prelude.{◌≡◌, ◌<◌, ◌≤◌, ◌+◌, ◌^◌, [], ◌∷◌, length};
 ghost use Rattle.vm_stack.specs.Stacks.{held_cost, item_at};
 ghost use Rattle.vm_run.specs.Effect.{does};
@@ -56,10 +56,8 @@ impl Machine {
         requires small { self.old.left + held_cost self.old.stack < 2 ^ 63 }
         ensures { Follows self.old (does n (item.now ∷ []) base) result self.new }
     {
-        match self.pop(n, base) {
-            Ok(()) => self.push(item),
-            Err(fault) => Err(fault),
-        }
+        self.pop(n, base)?;
+        self.push(item)
     }
 
     /// Pays a base cost and for an item, and pushes it.

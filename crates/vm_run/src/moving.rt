@@ -1,4 +1,4 @@
-// The lines that drop, copy and move items.
+//! The instructions that drop, copy and move items.
 ghost use Rattle.std.specs.Prelude.{◌≡◌, ◌<◌, ◌≤◌, ◌+◌, ◌^◌, length, take, drop, pos};
 ghost use Rattle.vm_stack.specs.Stacks.{held_cost};
 ghost use Rattle.vm_num.specs.Item.{num_bytes};
@@ -9,7 +9,7 @@ ghost use Rattle.vm_run.specs.Moving.{stack_rule};
 
 use crate::StepFault;
 use crate::machine::Machine;
-use crate::operands::{count, one};
+use crate::operands::{count, top};
 use vm_code::codes::{
     DEPTH, DROP, DROP2, DUP, DUP2, DUP3, IFDUP, NIP, OVER, OVER2, PICK, ROLL, ROT, ROT2, SWAP,
     SWAP2, TUCK,
@@ -19,7 +19,7 @@ use vm_num::{Failure, truth, write_num};
 impl Machine {
     /// The lines of the codes 6d to 7d.
     #[tactic(auto, unfolding(crate::specs::Moving::stack_rule))]
-    pub fn stack_line(&mut self, code: u8) -> Result<(), StepFault>
+    pub fn stack_instruction(&mut self, code: u8) -> Result<(), StepFault>
         requires small { self.old.left + held_cost self.old.stack < 2 ^ 63 }
         ensures { Follows self.old (stack_rule code self.old.stack.items self.old.stack.alt) result self.new }
     {
@@ -130,7 +130,7 @@ impl Machine {
         requires small { self.old.left + held_cost self.old.stack < 2 ^ 63 }
         ensures { Follows self.old (on_one ifdup_row self.old.stack.items self.old.stack.alt) result self.new }
     {
-        let copies = truth(one(&self.stack)?);
+        let copies = truth(top(&self.stack)?);
         if copies {
             self.copies(0, 1, 1)
         } else {
@@ -173,10 +173,8 @@ impl Machine {
         if self.stack.depth() - 1 <= n {
             return Err(StepFault::Failed(Failure::Underflow));
         }
-        match self.pop(1, 2) {
-            Ok(()) => self.copy(n),
-            Err(fault) => Err(fault),
-        }
+        self.pop(1, 2)?;
+        self.copy(n)
     }
 
     fn roll(&mut self) -> Result<(), StepFault>
@@ -187,12 +185,10 @@ impl Machine {
         if self.stack.depth() - 1 <= n {
             return Err(StepFault::Failed(Failure::Underflow));
         }
-        match self.pop(1, 2) {
-            Ok(()) => match self.stack.roll(n) {
-                Ok(()) => Ok(()),
-                Err(_) => Err(StepFault::Failed(Failure::Underflow)),
-            },
-            Err(fault) => Err(fault),
+        self.pop(1, 2)?;
+        match self.stack.roll(n) {
+            Ok(()) => Ok(()),
+            Err(_) => Err(StepFault::Failed(Failure::Underflow)),
         }
     }
 }

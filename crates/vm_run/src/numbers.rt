@@ -1,7 +1,7 @@
-// The lines that make an item of numbers or of truth values.
+//! The instructions that make an item of numbers or of truth values.
 ghost use Rattle.std.specs.Prelude.{◌≡◌, ◌<◌, ◌≤◌, ◌≢◌, ◌+◌, ◌^◌, ◌&&◌, ◌||◌, length};
 ghost use Rattle.vm_num.specs.Item.{is_true};
-ghost use Rattle.vm_ops.specs.Line.{Line, truth_item};
+ghost use Rattle.vm_ops.specs.Results.{ItemResult, truth_item};
 ghost use Rattle.vm_ops.specs.Numbers.{IsNumberCode, number_base, number_count};
 ghost use Rattle.vm_stack.specs.Stacks.{held_cost};
 ghost use Rattle.vm_run.specs.Effect.{on_two, on_two_numbers};
@@ -11,7 +11,7 @@ ghost use Rattle.vm_run.specs.Making.{truth_row, numequalverify_row};
 
 use crate::StepFault;
 use crate::machine::Machine;
-use crate::operands::{number, three_numbers, two, two_numbers};
+use crate::operands::{number, three_numbers, top_two, two_numbers};
 use vm_code::codes::{BOOLAND, BOOLOR, MAX, MUL, NOT_ZERO, NUMEQUALVERIFY, RSHIFT};
 use vm_num::{Failure, Num, truth};
 use vm_ops::number_row;
@@ -19,7 +19,7 @@ use vm_ops::number_row;
 impl Machine {
     /// The lines of the codes 8b to a5.
     #[tactic(auto, unfolding(crate::specs::Making::number_rule))]
-    pub fn number_line(&mut self, code: u8) -> Result<(), StepFault>
+    pub fn number_instruction(&mut self, code: u8) -> Result<(), StepFault>
         requires low { 0x8b ≤ code }
         requires high { code ≤ 0xa5 }
         requires small { self.old.left + held_cost self.old.stack < 2 ^ 63 }
@@ -62,13 +62,13 @@ impl Machine {
         self.put_number(code, 3, number_row(code, a, b, c))
     }
 
-    // Pays for what a line of numbers gives in the place of the top n items, and puts it there.
-    fn put_number(&mut self, code: u8, n: u64, line: Result<Num, Failure>) -> Result<(), StepFault>
+    // Pays for what an instruction on numbers gives in the place of the top n items, and puts it there.
+    fn put_number(&mut self, code: u8, n: u64, rule: Result<Num, Failure>) -> Result<(), StepFault>
         requires there { n ≤ length self.old.stack.items }
         requires small { self.old.left + held_cost self.old.stack < 2 ^ 63 }
-        ensures { Follows self.old (number_row code n line) result self.new }
+        ensures { Follows self.old (number_row code n rule) result self.new }
     {
-        match line {
+        match rule {
             Ok(item) => self.put(n, item.as_slice(), base(code)),
             Err(kind) => Err(StepFault::Failed(kind)),
         }
@@ -79,7 +79,7 @@ impl Machine {
         ensures { Follows self.old (on_two (λ a b. truth_row (is_true a && is_true b)) self.old.stack.items
             self.old.stack.alt) result self.new }
     {
-        let (a, b) = two(&self.stack)?;
+        let (a, b) = top_two(&self.stack)?;
         let holds = truth(a) && truth(b);
         self.put(2, truth_bytes(holds), 2)
     }
@@ -89,7 +89,7 @@ impl Machine {
         ensures { Follows self.old (on_two (λ a b. truth_row (is_true a || is_true b)) self.old.stack.items
             self.old.stack.alt) result self.new }
     {
-        let (a, b) = two(&self.stack)?;
+        let (a, b) = top_two(&self.stack)?;
         let holds = truth(a) || truth(b);
         self.put(2, truth_bytes(holds), 2)
     }

@@ -1,7 +1,7 @@
-// The operands of a line, read off a data stack.
+//! The operands of an instruction, read off a data stack.
 ghost use Rattle.std.specs.Prelude.{◌≡◌, Some, None};
 ghost use Rattle.vm_num.specs.Item.{num};
-ghost use Rattle.vm_run.specs.Operands.{IsOne, AreTwo, IsNumber, AreTwoNumbers, AreThreeNumbers, IsSized, IsPart};
+ghost use Rattle.vm_run.specs.Operands.{IsTop, AreTopTwo, IsNumber, AreTwoNumbers, AreThreeNumbers, IsSized, IsPart};
 ghost use Rattle.vm_run.specs.Operands.{IsCount, IsCall};
 ghost use Rattle.vm_run.specs.Run.{top_is_true};
 
@@ -10,8 +10,8 @@ use vm_num::{Failure, read_num, truth};
 use vm_stack::Stack;
 
 /// The top item.
-pub fn one(stack: &Stack) -> Result<&[u8], Failure>
-    ensures { IsOne stack.now.items result }
+pub fn top(stack: &Stack) -> Result<&[u8], Failure>
+    ensures { IsTop stack.now.items result }
 {
     match stack.item(0) {
         Some(a) => Ok(a),
@@ -20,8 +20,8 @@ pub fn one(stack: &Stack) -> Result<&[u8], Failure>
 }
 
 /// The two top items, the deeper first.
-pub fn two(stack: &Stack) -> Result<(&[u8], &[u8]), Failure>
-    ensures { AreTwo stack.now.items result }
+pub fn top_two(stack: &Stack) -> Result<(&[u8], &[u8]), Failure>
+    ensures { AreTopTwo stack.now.items result }
 {
     match (stack.item(1), stack.item(0)) {
         (Some(a), Some(b)) => Ok((a, b)),

@@ -1,4 +1,4 @@
-// CHECKPREDICATE: the child that it opens, and what that leaves.
+//! CHECKPREDICATE: the child that it opens, and what that leaves.
 ghost use Rattle.std.specs.Prelude.{◌≡◌, ◌<◌, ◌≤◌, ◌+◌, ◌^◌, IfOk};
 ghost use Rattle.vm_stack.specs.Stacks.{held_cost};
 ghost use Rattle.vm_run.specs.Ends.{Closed, given_by, good_end};
@@ -20,8 +20,8 @@ pub struct Opened {
 }
 
 impl Machine {
-    /// The line of CHECKPREDICATE: takes its three items and those that it counts off the stack, and the child's limit
-    /// from what is left.
+    /// The instruction CHECKPREDICATE: takes its three items and those that it counts off the stack, and the child's
+    /// limit from what is left.
     pub fn open(&mut self) -> Result<Opened, StepFault>
         requires small { self.old.left + held_cost self.old.stack < 2 ^ 63 }
         ensures opened { IsOpened (call_move self.old) result self.new }

@@ -1,5 +1,5 @@
-// A run from a place of a program on.
-ghost use Rattle.std.specs.Prelude.{◌<◌, ◌≤◌, ◌+◌, ◌^◌, length};
+//! A run from a place of a program on.
+ghost use Rattle.std.specs.Prelude.{◌<◌, ◌≤◌, ◌+◌, ◌^◌, length, IfOk};
 ghost use Rattle.vm_stack.specs.Stacks.{held_cost};
 ghost use Rattle.vm_run.specs.Ends.{Ends};
 ghost use Rattle.vm_run.specs.Row.{NumbersFit};
@@ -32,7 +32,7 @@ pub fn run<C: SigCheck>(
     requires place { machine.old.at ≤ length program.now }
     requires small { machine.old.left + held_cost machine.old.stack < 2 ^ 63 }
     requires numbers { NumbersFit ctx.now }
-    ensures { Ends ctx.now (C.good_of sigs.now) program.now machine.old result machine.new }
+    ensures { IfOk result (λ end. Ends ctx.now (C.good_of sigs.now) program.now machine.old end machine.new) }
 {
     while machine.at < program.len() as u64 {
         let at = machine.at;

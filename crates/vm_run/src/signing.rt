@@ -1,6 +1,6 @@
-// The lines of signatures.
-ghost use Rattle.std.specs.Prelude.{◌≡◌, ◌<◌, ◌≤◌, ◌+◌, ◌*◌, ◌^◌, [], length, drop, max, nat_eq, nat_lt};
-ghost use Rattle.std.specs.Prelude.{◌&&◌, ◌||◌, slice_index_or};
+//! The instructions of signatures.
+ghost use Rattle.std.specs.Prelude.{◌≡◌, ◌<◌, ◌≤◌, ◌+◌, ◌*◌, ◌^◌, [], length, drop, max, nat_eq, nat_lt, ◌&&◌, ◌||◌};
+ghost use Rattle.std.specs.Prelude.{slice_index_or};
 ghost use Rattle.vm_stack.specs.Stacks.{held_cost};
 ghost use Rattle.vm_run.specs.Effect.{on_three};
 ghost use Rattle.vm_run.specs.Follows.{Follows};
@@ -35,7 +35,7 @@ impl<'a> Pile for Below<'a> {
 }
 
 impl Machine {
-    /// The line of CHECKSIG.
+    /// The instruction CHECKSIG.
     pub fn check_signature<C: SigCheck>(&mut self, sigs: &C) -> Result<(), StepFault>
         requires small { self.old.left + held_cost self.old.stack < 2 ^ 63 }
         ensures { Follows self.old (on_three (signature_row (C.good_of sigs.now)) self.old.stack.items
@@ -52,7 +52,7 @@ impl Machine {
         self.put(3, truth_bytes(good), 1024)
     }
 
-    /// The line of CHECKMULTISIG.
+    /// The instruction CHECKMULTISIG.
     pub fn check_signatures<C: SigCheck>(&mut self, sigs: &C) -> Result<(), StepFault>
         requires small { self.old.left + held_cost self.old.stack < 2 ^ 63 }
         ensures { Follows self.old (by_counts (signatures_row (C.good_of sigs.now)) self.old.stack.items
@@ -62,7 +62,7 @@ impl Machine {
         self.counted_signatures(sigs, m, n)
     }
 
-    // The line of CHECKMULTISIG where the two items on top are these counts.
+    // The instruction CHECKMULTISIG where the two items on top are these counts.
     fn counted_signatures<C: SigCheck>(&mut self, sigs: &C, m: u64, n: u64) -> Result<(), StepFault>
         requires there { 2 ≤ length self.old.stack.items }
         requires signatures { m < 2 ^ 63 }
@@ -83,7 +83,7 @@ impl Machine {
         self.pay_signatures(sigs, m, n)
     }
 
-    // Pays for checks by n keys and tells whether m signatures are good; nothing is checked before it is paid for.
+    // Pays for checks by n keys and says whether m signatures are good; nothing is checked before it is paid for.
     fn pay_signatures<C: SigCheck>(&mut self, sigs: &C, m: u64, n: u64) -> Result<(), StepFault>
         requires counts { m ≤ n }
         requires there { n + m + 3 ≤ length self.old.stack.items }

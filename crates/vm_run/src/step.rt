@@ -1,4 +1,4 @@
-// One step of a run.
+//! One step of a run.
 ghost use Rattle.std.specs.Prelude.{◌≢◌, ◌<◌, ◌+◌, ◌^◌, length};
 ghost use Rattle.vm_code.specs.Seen.{seen};
 ghost use Rattle.vm_stack.specs.Stacks.{held_cost};
@@ -18,7 +18,7 @@ use vm_num::Failure;
 pub enum Done {
     /// The instruction is complete.
     Moved,
-    /// It is CHECKPREDICATE, and complete once its child has run. The machine stands behind it, and is otherwise as it
+    /// It is CHECKPREDICATE, and complete once its child has run. The machine stands after it, and is otherwise as it
     /// was.
     Called,
 }
@@ -51,7 +51,7 @@ impl Machine {
         }
     }
 
-    // Does the line of an instruction that the machine stands behind, in a program of this length.
+    // Carries out an instruction that the machine stands after, in a program of this length.
     fn complete<C: SigCheck>(
         &mut self,
         ctx: &Context,
@@ -68,14 +68,12 @@ impl Machine {
         if i.code == CHECKPREDICATE {
             return Ok(Done::Called);
         }
-        match self.line(ctx, sigs, i, size, scratch) {
-            Ok(()) => Ok(Done::Moved),
-            Err(fault) => Err(fault),
-        }
+        self.instruction(ctx, sigs, i, size, scratch)?;
+        Ok(Done::Moved)
     }
 
     // The same for every code but CHECKPREDICATE.
-    fn line<C: SigCheck>(
+    fn instruction<C: SigCheck>(
         &mut self,
         ctx: &Context,
         sigs: &C,
@@ -90,12 +88,12 @@ impl Machine {
             self.old.stack.alt) result self.new }
     {
         match i.code {
-            ..=SIXTEEN => self.push_line(i),
-            ..=FROMALTSTACK => self.control_line(i, size),
-            ..=TUCK => self.stack_line(i.code),
-            ..=CATPUSHDATA => self.string_line(i.code, scratch),
-            ADD_ONE..=WITHIN => self.number_line(i.code),
-            _ => self.other_line(ctx, sigs, i.code, scratch),
+            ..=SIXTEEN => self.push_instruction(i),
+            ..=FROMALTSTACK => self.control_instruction(i, size),
+            ..=TUCK => self.stack_instruction(i.code),
+            ..=CATPUSHDATA => self.string_instruction(i.code, scratch),
+            ADD_ONE..=WITHIN => self.number_instruction(i.code),
+            _ => self.high_instruction(ctx, sigs, i.code, scratch),
         }
     }
 }

@@ -1,6 +1,6 @@
-// The lines that make an item of strings of bytes.
+//! The instructions that make an item of strings of bytes.
 ghost use Rattle.std.specs.Prelude.{◌≡◌, ◌<◌, ◌≤◌, ◌+◌, ◌^◌, [], pos};
-ghost use Rattle.vm_ops.specs.Bytes.{IsBytesCode, bytes_base, bytes_line};
+ghost use Rattle.vm_ops.specs.Bytes.{IsBytesCode, bytes_base, bytes_result};
 ghost use Rattle.vm_stack.specs.Stacks.{held_cost};
 ghost use Rattle.vm_run.specs.Effect.{on_one, on_two};
 ghost use Rattle.vm_run.specs.Follows.{Follows, Makes};
@@ -10,7 +10,7 @@ ghost use Rattle.vm_run.specs.Making.{equalverify_row};
 use crate::StepFault;
 use crate::machine::Machine;
 use crate::numbers::truth_bytes;
-use crate::operands::{one, part, sized, two};
+use crate::operands::{part, sized, top, top_two};
 use vm_code::codes::{
     AND, CAT, CATPUSHDATA, EQUAL, EQUALVERIFY, INVERT, LEFT, OR, RIGHT, SHA256, SIZE, SUBSTR, XOR,
 };
@@ -20,7 +20,7 @@ use vm_ops::{RowFault, bytes_row};
 impl Machine {
     /// The lines of the codes 7e to 89. `scratch` is used for their results.
     #[tactic(auto, unfolding(crate::specs::Making::string_rule))]
-    pub fn string_line(&mut self, code: u8, scratch: &mut Vec<u8>) -> Result<(), StepFault>
+    pub fn string_instruction(&mut self, code: u8, scratch: &mut Vec<u8>) -> Result<(), StepFault>
         requires small { self.old.left + held_cost self.old.stack < 2 ^ 63 }
         ensures { Follows self.old (string_rule code self.old.stack.items self.old.stack.alt) result self.new }
     {
@@ -41,13 +41,13 @@ impl Machine {
         }
     }
 
-    /// The line of a code that takes one string, INVERT or SHA256.
+    /// The instruction of a code that takes one string, INVERT or SHA256.
     pub fn of_string(&mut self, code: u8, scratch: &mut Vec<u8>) -> Result<(), StepFault>
         requires code { IsBytesCode code }
         requires small { self.old.left + held_cost self.old.stack < 2 ^ 63 }
         ensures { Follows self.old (of_string code self.old.stack.items self.old.stack.alt) result self.new }
     {
-        let a = one(&self.stack)?;
+        let a = top(&self.stack)?;
         let base = make(code, a, &[], 0, 0, scratch)?;
         self.put(1, scratch.as_slice(), base)
     }
@@ -57,7 +57,7 @@ impl Machine {
         requires small { self.old.left + held_cost self.old.stack < 2 ^ 63 }
         ensures { Follows self.old (of_two_strings code self.old.stack.items self.old.stack.alt) result self.new }
     {
-        let (a, b) = two(&self.stack)?;
+        let (a, b) = top_two(&self.stack)?;
         let base = make(code, a, b, 0, 0, scratch)?;
         self.put(2, scratch.as_slice(), base)
     }
@@ -86,16 +86,16 @@ impl Machine {
         requires small { self.old.left + held_cost self.old.stack < 2 ^ 63 }
         ensures { Follows self.old (on_one size_row self.old.stack.items self.old.stack.alt) result self.new }
     {
-        let size = write_num(one(&self.stack)?.len() as i64);
+        let size = write_num(top(&self.stack)?.len() as i64);
         self.add(size.as_slice(), 1)
     }
 
-    #[tactic(auto, unfolding(vm_ops::specs::Bytes::bytes_line))]
+    #[tactic(auto, unfolding(vm_ops::specs::Bytes::bytes_result))]
     fn equal(&mut self) -> Result<(), StepFault>
         requires small { self.old.left + held_cost self.old.stack < 2 ^ 63 }
         ensures { Follows self.old (of_two_strings 0x87 self.old.stack.items self.old.stack.alt) result self.new }
     {
-        let (a, b) = two(&self.stack)?;
+        let (a, b) = top_two(&self.stack)?;
         let base = 1 + a.len().min(b.len()) as u64;
         let same = a == b;
         self.put(2, truth_bytes(same), base)
@@ -105,7 +105,7 @@ impl Machine {
         requires small { self.old.left + held_cost self.old.stack < 2 ^ 63 }
         ensures { Follows self.old (on_two equalverify_row self.old.stack.items self.old.stack.alt) result self.new }
     {
-        let (a, b) = two(&self.stack)?;
+        let (a, b) = top_two(&self.stack)?;
         let base = 1 + a.len().min(b.len()) as u64;
         if a == b {
             self.pop(2, base)
@@ -115,7 +115,7 @@ impl Machine {
     }
 }
 
-// Makes the item of a line, and says its base cost.
+// Makes the item of an instruction, and gives its base cost.
 fn make(
     code: u8,
     a: &[u8],
@@ -125,7 +125,7 @@ fn make(
     out: &mut Vec<u8>,
 ) -> Result<u64, StepFault>
     requires { IsBytesCode code }
-    ensures { Makes code a.now b.now (bytes_line code a.now b.now from size) result out.new.items }
+    ensures { Makes code a.now b.now (bytes_result code a.now b.now from size) result out.new.items }
 {
     out.clear();
     match bytes_row(code, a, b, from, size, out) {

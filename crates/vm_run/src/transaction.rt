@@ -1,3 +1,4 @@
+//! What a program sees of the transaction that it is run for.
 use wire::{Bytes, Id, Listed};
 
 /// An output of a transaction, as a program sees it.

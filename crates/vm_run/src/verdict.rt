@@ -1,3 +1,4 @@
+//! A program run on its arguments, and how that ends.
 ghost use Rattle.std.specs.Prelude.{◌≡◌, ◌+◌, ◌-◌, ◌<◌, ◌≤◌, ◌^◌, [], min, reverse, IfOk};
 ghost use Rattle.vm_num.specs.Item.{total_cost};
 ghost use Rattle.vm_run.specs.Ends.{VerdictFrom, VerdictOf};
@@ -74,10 +75,8 @@ fn start<C: SigCheck>(
         at: 0,
     };
     let mut scratch = Vec::new(alloc);
-    match run(&mut machine, ctx, sigs, program, &mut scratch) {
-        Ok(end) => Ok(verdict_on(end, &machine, program.len() as u64)),
-        Err(NoMemory) => Err(NoMemory),
-    }
+    let end = run(&mut machine, ctx, sigs, program, &mut scratch)?;
+    Ok(verdict_on(end, &machine, program.len() as u64))
 }
 
 // A data stack of copies of these items, the first of them deepest.

@@ -24,7 +24,7 @@ module _ {X : Type 0} (n : ℕ) (xs : List X) where
   pub take-reverse : n ≤ length xs → take n (reverse xs) ≡ reverse (drop (length xs - n) xs)
   take-reverse within = back_reversed xs (length xs - n) n (omega arith)
 
--- the element with n behind it, and the others
+-- the element with n after it, and the others
 module _ {X : Type 0} (n : ℕ) (xs : List X) (within : n < length xs) where
   pub remove-reverse : remove (reverse xs) n ≡ reverse (remove xs (length xs - 1 - n))
   remove-reverse =

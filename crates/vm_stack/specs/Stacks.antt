@@ -1,26 +1,15 @@
 -- A data stack and an alt stack, and what their items cost (Chain VM 1).
-use Rattle.std.specs.Prelude.{ℕ, ◌+◌, List, [], ◌∷◌, ◌++◌, length, take, drop, sum_by, slice_index_or, remove}
-
--- a string of bytes
-abbrev pub Item : Type 0
-Item = List ℕ
+use Rattle.std.specs.Prelude.{ℕ, ◌+◌, List, [], ◌∷◌, ◌++◌, take, drop, slice_index_or, remove}
+use Rattle.vm_num.specs.Item.{Item, total_cost}
 
 -- the items of both stacks, the top of each first
 pub record Stacks : Type 0 where
   pub items : List Item
   pub alt : List Item
 
--- what an item on a stack costs
-abbrev pub item_cost : Item → ℕ
-item_cost item = 8 + length item
-
--- what all items of a list cost
-abbrev pub cost : List Item → ℕ
-cost items = sum_by item_cost items
-
 -- what both stacks hold costs
 abbrev pub held_cost : Stacks → ℕ
-held_cost s = cost s.items + cost s.alt
+held_cost s = total_cost s.items + total_cost s.alt
 
 -- the item n below the top, where it is there
 abbrev pub item_at : ℕ → List Item → Item

@@ -1,3 +1,4 @@
+//! Why an item cannot be reached or put.
 use std::alloc::{AllocError, AllocFailed};
 
 /// Why a call on a stack was not done. The stack is then as it was.
@@ -7,7 +8,7 @@ pub enum StackFault {
     Underflow,
     /// The alt stack is empty.
     AltUnderflow,
-    /// Memory was wanted and not found.
+    /// Out of memory.
     NoMemory,
 }
 

@@ -1,6 +1,6 @@
-// One item, and what several cost.
+//! One item, and what several cost.
 ghost use Rattle.std.specs.Prelude.{◌≡◌, ◌<◌, ◌≤◌, ◌+◌, ◌^◌, length, take, drop};
-ghost use Rattle.vm_stack.specs.Stacks.{cost};
+ghost use Rattle.vm_num.specs.Item.{total_cost};
 
 use std::marker::Model;
 
@@ -20,7 +20,7 @@ impl Model for Item {
 
 impl Item {
     /// The bytes of a vector.
-    pub fn of(bytes: Vec<u8>) -> Item
+    pub fn from_vec(bytes: Vec<u8>) -> Item
         ensures { result ≡ bytes.items }
     {
         Item { bytes }
@@ -34,21 +34,21 @@ impl Item {
     }
 }
 
-/// What the items behind the first so many cost.
+/// What the items after the first so many cost.
 #[tactic(auto, using(crate::proofs::Costs::costs))]
 pub fn cost_behind(items: &[Item], first: usize) -> u64
     requires within { first ≤ length items.now }
-    requires fits { cost items.now < 2 ^ 64 }
-    ensures cost { result ≡ cost (drop first items.now) }
-    ensures both { cost (take first items.now) + result ≡ cost items.now }
+    requires fits { total_cost items.now < 2 ^ 64 }
+    ensures cost { result ≡ total_cost (drop first items.now) }
+    ensures both { total_cost (take first items.now) + result ≡ total_cost items.now }
 {
     cost_of(&items[first..])
 }
 
 // What the items cost.
 fn cost_of(items: &[Item]) -> u64
-    requires { cost items.now < 2 ^ 64 }
-    ensures { result ≡ cost items.now }
+    requires { total_cost items.now < 2 ^ 64 }
+    ensures { result ≡ total_cost items.now }
 {
     let mut total = 0u64;
     for item in items {

@@ -1,7 +1,9 @@
+//! The data stack and the alt stack, with the cost of their items kept beside them.
 ghost use Rattle.std.specs.Prelude.{◌≡◌, ◌≢◌, ◌≤◌, ◌<◌, ◌^◌, ◌+◌, ◌-◌, ◌↔◌, [], ◌∷◌, length, take, drop, IsErrOf};
 ghost use Rattle.std.specs.Prelude.{IsOkUnless, OnOk, OnErr, IfOk, IfErr, IfSome, IsNone, ◌++◌, vec_len};
 ghost use Rattle.std.specs.Prelude.{slice_index_or, remove};
-ghost use Rattle.vm_stack.specs.Stacks.{cost, held_cost, picked, rolled, moved_to_alt, moved_from_alt};
+ghost use Rattle.vm_stack.specs.Stacks.{held_cost, picked, rolled, moved_to_alt, moved_from_alt};
+ghost use Rattle.vm_num.specs.Item.{total_cost};
 
 use crate::StackFault;
 use crate::item::{Item, cost_behind};
@@ -26,13 +28,14 @@ pub struct Stack {
 
 impl Model for Stack {
     ghost use Rattle.std.specs.Prelude.{◌≡◌, ◌+◌, reverse};
-    ghost use Rattle.vm_stack.specs.Stacks.{Stacks, cost};
+    ghost use Rattle.vm_num.specs.Item.{total_cost};
+    ghost use Rattle.vm_stack.specs.Stacks.{Stacks};
 
     ghost Value = { Stacks };
 
     ghost view = { λ s. record { items = reverse s.items.items; alt = reverse s.alt.items } };
 
-    ghost invariant = { λ s. s.held ≡ cost s.items.items + cost s.alt.items };
+    ghost invariant = { λ s. s.held ≡ total_cost s.items.items + total_cost s.alt.items };
 }
 
 impl Stack {
@@ -90,7 +93,7 @@ impl Stack {
         let Some(held) = sum_with(self.held, item.len()) else {
             return Err(StackFault::NoMemory);
         };
-        self.items.push(Item::of(item))?;
+        self.items.push(Item::from_vec(item))?;
         self.held = held;
         Ok(())
     }
@@ -218,7 +221,7 @@ impl Pile for Stack {
 fn last_from(items: &mut Vec<Item>, at: usize)
     requires { at < vec_len items.old }
     ensures items { items.new.items ≡ remove items.old.items at ++ slice_index_or items.old.items at [] ∷ [] }
-    ensures cost { cost items.new.items ≡ cost items.old.items }
+    ensures cost { total_cost items.new.items ≡ total_cost items.old.items }
 {
     items[at..].rotate_left(1);
 }

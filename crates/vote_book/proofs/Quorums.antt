@@ -31,7 +31,7 @@ at_place : (front : List ℕ) (x : ℕ) (rest : List ℕ) → slice_get (front +
 at_place [] x rest = refl
 at_place (y ∷ front) x rest = at_place front x rest
 
--- the code behind the keys
+-- the code after the keys
 pub code_behind : (keys : List (List ℕ)) (m : ℕ) → 1 ≤ m → m ≤ 16
     → slice_get (quorum_of keys m) (1 + length (flat_map push_of keys)) ≡ Some (80 + m)
 code_behind keys m some few =
@@ -72,7 +72,7 @@ KeyAt program at k len =
     (key before after : List ℕ) → IsKey key → program ≡ (before ++ push_of key) ++ after → length before ≡ at
     → (k ≡ key) × (len ≡ length (push_of key))
 
--- no code behind those of pushed data stands at this place
+-- no code after those of pushed data stands at this place
 abbrev pub NoCodeAt : List ℕ → ℕ → Type 0
 NoCodeAt program at = (code : ℕ) → slice_get program at ≡ Some code → 0x4e < code → ⊥
 
@@ -120,7 +120,7 @@ pub keys_more : (keys : List (List ℕ)) (k : List ℕ) → AllByRecursion IsKey
 keys_more [] k h short = (short, tt)
 keys_more (x ∷ keys) k h short = (h.0, keys_more keys k h.1 short)
 
--- the number that is asked for stands behind the keys
+-- the number that is asked for stands after the keys
 pub number_read : (program : List ℕ) (keys : List (List ℕ)) (m at : ℕ) → IsQuorum keys m → program ≡ quorum_of keys m
     → at ≡ 1 + length (flat_map push_of keys) → slice_get program at ≡ Some (80 + m)
 number_read program keys m at q is place =

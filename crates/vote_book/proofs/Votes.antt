@@ -93,7 +93,7 @@ one_of kept ballot (Refused h i) (Refused k j) p q = one_refused kept ballot h k
 
 -- ---- histories
 
--- what stands behind votes and one more
+-- what stands after votes and one more
 at_front : (votes : List Ballot) (ballot : Ballot) (i : ℕ) → i < length votes → slice_get (votes ++ ballot ∷ []) i ≡ slice_get votes i
 at_front [] ballot i h = absurd (omega (arith, h))
 at_front (v ∷ votes) ballot zero h = refl

@@ -1,5 +1,5 @@
 pub mod Spelling
 pub mod Votes
 pub mod Quorum
-pub mod Behind
+pub mod Positions
 pub mod Laws

@@ -13,7 +13,7 @@ pub record IsQuorum (keys : List (List ℕ)) (m : ℕ) : Type 0 where
   pub some : 1 ≤ m
   pub at_most : m ≤ length keys
 
--- what stands behind the keys: how many are asked for, how many there are, and CHECKMULTISIG
+-- what stands after the keys: how many are asked for, how many there are, and CHECKMULTISIG
 abbrev pub asking : (m n : ℕ) → List ℕ
 asking m n = push_int_of (pos m) ++ (push_int_of (pos n) ++ 0xad ∷ [])
 

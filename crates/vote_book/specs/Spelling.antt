@@ -1,14 +1,14 @@
 -- How a vote and a book are spelled: a vote as its height and its id, a book as its last vote, or as nothing.
-use Rattle.std.specs.Prelude.{◌≢◌, ℕ, ◌-◌, ◌^◌, List, [], Option, Some, None}
+use Rattle.std.specs.Prelude.{◌≢◌, ℕ, List, [], Option, Some, None}
+use Rattle.wire.specs.Spelling.{greatest}
 use Rattle.wire.specs.Places.{Place, Reading, mapped}
 use Rattle.wire.specs.Layout.{Layout, Number, Id, Then, Value, spelling, Fits, read_at}
 use Rattle.wire.specs.FirstFault.{FirstFault, WholeFault}
 use Rattle.wire.specs.declared.fault.DataKind.{DataKind}
 use Rattle.vote_book.specs.declared.ballot.Ballot.{Ballot}
 
--- the greatest number is 2^63 - 1
 abbrev pub ballot_layout : Layout
-ballot_layout = Then (Number (2 ^ 63 - 1)) Id
+ballot_layout = Then (Number greatest) Id
 
 abbrev pub ballot_parts : Ballot → Value ballot_layout
 ballot_parts ballot = (ballot.height, ballot.id)

@@ -1,7 +1,6 @@
+//! A vote that was cast, as a record.
 use std::alloc::Global;
-use wire::{Cursor, DataFault, Id, NoMemory, Record, Writer, layout_readings};
-
-pub(crate) const MAX_NUMBER: u64 = (1 << 63) - 1;
+use wire::{Cursor, DataFault, Id, MAX_NUMBER, NoMemory, Record, Writer, layout_readings};
 
 /// A vote that was cast: for the block of this id, at this height.
 #[derive(Clone, Copy, Debug, PartialEq, Eq)]

@@ -1,14 +1,14 @@
+//! The book of votes, and the votes that it takes.
 ghost use Rattle.std.specs.Prelude.{◌≡◌, ◌≢◌, ℕ, ◌<◌, ◌^◌, Some, None, Ok, Err, IfOk, IfErr};
 ghost use Rattle.wire.specs.Places.{Gives, start, whole_at};
 ghost use Rattle.wire.specs.declared.fault.DataFault.TheVariants as faults;
 ghost use Rattle.vote_book.specs.Spelling.{Kept, BookFits, BookFault, ballot_at, book_spelling};
 ghost use Rattle.vote_book.specs.Votes.{Answers, kept_after};
 
-use crate::ballot::MAX_NUMBER;
 use crate::{Ballot, NoMemory};
 use std::alloc::Global;
 use std::marker::Model;
-use wire::{Cursor, DataFault, DataKind, Id, encode, record_readings};
+use wire::{Cursor, DataFault, DataKind, Id, MAX_NUMBER, encode, record_readings};
 
 /// What a book answers to a vote.
 #[derive(Clone, Copy, Debug, PartialEq, Eq)]
@@ -17,7 +17,7 @@ pub enum Vote {
     New,
     /// The kept vote has this height and this id.
     Same,
-    /// The kept vote, which is told, is at a greater height, or at this one with another id.
+    /// The kept vote, which is reported, is at a greater height, or at this one with another id.
     Refused { height: u64, kept: Id },
 }
 
@@ -98,7 +98,7 @@ pub fn decode_book(b: &[u8]) -> Result<Book, (u64, DataKind)>
     // What is spelled so is read.
     ensures only { (kept : Kept) → BookFits kept → b.now ≡ book_spelling kept → result ≡ Ok kept }
 
-    // What is told is the first fault, and the first fault is told.
+    // What is reported is the first fault, and the first fault is reported.
     ensures fault { IfErr result (λ fault. BookFault b.now fault.0 fault.1) }
     ensures told { (at : ℕ) (kind : DataKind) → BookFault b.now at kind → result ≡ Err (at, kind) }
 {

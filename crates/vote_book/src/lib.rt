@@ -4,13 +4,11 @@
 mod ballot;
 mod book;
 pub mod laws;
-mod memory;
 mod quorum;
 mod reading;
 
 pub use ballot::Ballot;
 pub use book::{Book, Vote, decode_book};
-pub use memory::NoMemory;
 pub use quorum::quorum_program;
 pub use reading::read_quorum;
-pub use wire::DataKind;
+pub use wire::{DataKind, NoMemory};

@@ -1,3 +1,4 @@
+//! The program that asks for signatures of a quorum.
 ghost use Rattle.std.specs.Prelude.{◌≡◌, ◌++◌, ◌∷◌, [], take, IfOk};
 ghost use Rattle.std.specs.List.{flat_map};
 ghost use Rattle.vm_num.specs.Push.{push_of};

@@ -1,9 +1,10 @@
+//! The quorum that a program of that form asks for.
 ghost use Rattle.std.specs.Prelude.{◌≡◌, ℕ, ◌+◌, ◌<◌, ◌≤◌, List, [], ◌++◌, length, slice_get, Some};
 ghost use Rattle.std.specs.Prelude.{IfOk, IfSome, IsSome, IsNone};
 ghost use Rattle.std.specs.List.{AllByRecursion};
 ghost use Rattle.vm_num.specs.Push.{push_of};
 ghost use Rattle.vote_book.specs.Quorum.{IsKey, IsQuorum, quorum_of};
-ghost use Rattle.vote_book.specs.Behind.{AreBehind};
+ghost use Rattle.vote_book.specs.Positions.{AreBehind};
 
 use crate::{NoMemory, quorum_program};
 use std::alloc::Global;
@@ -49,7 +50,7 @@ pub fn read_quorum(alloc: Global, program: &[u8]) -> Result<Option<(Args, u64)>,
     }
 }
 
-// Reads at most 16 keys, those that are pushed behind the first byte, and gives the place behind the last of them.
+// Reads at most 16 keys, those that are pushed after the first byte, and gives the place after the last of them.
 fn read_keys(alloc: Global, program: &[u8], keys: &mut Args) -> Result<u64, NoMemory>
     requires { keys.old ≡ [] }
     ensures few { IfOk result (λ at. length keys.new ≤ 16) }

@@ -1,10 +1,10 @@
 -- A fault stands at one of the bytes, or at their end.
-use Rattle.std.proofs.Common.{ℕ, zero, suc, ◌+◌, ◌≤◌, List, ◌∷◌, ◌++◌, length, Option, ap, inl, inr, arith}
+use Rattle.std.proofs.Common.{ℕ, zero, suc, Bool, true, false, ◌+◌, ◌≤◌, List, ◌∷◌, ◌++◌, length, Option, ap, inl, inr, arith}
 use Rattle.std.proofs.lemmas.List.{length-append}
 use Rattle.wire.specs.declared.fault.DataKind.{DataKind}
 use Rattle.wire.specs.Spelling.{varint, varstring}
-use Rattle.wire.specs.Layout.{Layout, Nothing, Number, Amount, Raw, Text, Then, Many, Kinds, Frame, Fits, spelling}
-use Rattle.wire.specs.FirstFault.{Faults, FaultHere, BehindValue, RoomFault, FitsRoom, ItemsFault, WholeFault, InFrame, FirstFault, FirstFaultOfAll}
+use Rattle.wire.specs.Layout.{Layout, Nothing, Number, Amount, Raw, Text, Then, Many, Kinds, Frame, ByteOf, U32, Given, When, Fits, spelling}
+use Rattle.wire.specs.FirstFault.{Faults, FaultHere, BehindValue, RoomFault, FitsRoom, ItemsFault, WholeFault, InFrame, WhenFault, FirstFault, FirstFaultOfAll}
 
 abbrev StandsWithin : Faults → Type 0
 StandsWithin F = (bytes : List ℕ) (at : ℕ) (kind : DataKind) → F bytes at kind → at ≤ length bytes
@@ -34,6 +34,10 @@ unfolding varstring
 frame_within most F each bytes at why h =
     omega (arith, h.further, each h.held h.place why h.fault, ap length h.spelled, length-append (varint (length h.held) ++ h.held) h.rest, length-append (varint (length h.held)) h.held)
 
+when_within : (there : Bool) (F : Faults) → StandsWithin F → StandsWithin (WhenFault there F)
+when_within true F each bytes at why h = each bytes at why h
+when_within false F each bytes at why h = absurd h
+
 pub fault_within : (layout : Layout) → StandsWithin (FirstFault layout)
 fault_within Nothing bytes at why h = absurd h
 fault_within (Number most) bytes at why h = here_within _ bytes at why h
@@ -50,6 +54,11 @@ fault_within (Kinds count kind) bytes at why (inr h) = value_within _ _ _ (λ k.
 fault_within (Frame most held) bytes at why (inl h) = here_within _ bytes at why h
 fault_within (Frame most held) bytes at why (inr h) =
     frame_within most _ (whole_within (Fits held) (spelling held) (FirstFault held) (fault_within held)) bytes at why h
+fault_within (ByteOf allowed) bytes at why h = here_within _ bytes at why h
+fault_within U32 bytes at why h = here_within _ bytes at why h
+fault_within (Given most rest) bytes at why (inl h) = here_within _ bytes at why h
+fault_within (Given most rest) bytes at why (inr h) = value_within _ _ _ (λ n. fault_within (rest n)) bytes at why h
+fault_within (When there field) bytes at why h = when_within there (FirstFault field) (fault_within field) bytes at why h
 
 pub all_within : (layout : Layout) → StandsWithin (FirstFaultOfAll layout)
 all_within layout = whole_within (Fits layout) (spelling layout) (FirstFault layout) (fault_within layout)

@@ -25,7 +25,7 @@ front_more n b rest high h = (omega (arith, h.0), each_more n b rest high h.1)
 front_none : (bytes : List ℕ) → HighFront 0 bytes
 front_none bytes = (omega arith, λ i lt. absurd (omega arith))
 
--- ---- what a fault behind a high byte is
+-- ---- what a fault after a high byte is
 
 low_err : {A : Type 0} (t : Bool) (e : WireFault) (x : A) (rest : List ℕ) → cond t (failed NotShortest) (read x rest) ≡ failed e → (t ≡ true) × (NotShortest ≡ e)
 low_err true e x rest h = (refl, cc)
@@ -37,7 +37,7 @@ low_group-err b e (Ok x) h =
     inr (x.1, ap (λ (n : ℕ). read n x.1) (eqb-true x.0 0 parts.0), parts.1)
 low_group-err b e (Err f) h = inl h
 
--- a fault other than NotShortest stands behind the high byte
+-- a fault other than NotShortest stands after the high byte
 passes : (b : ℕ) (e : WireFault) (r : Read ℕ) → (NotShortest ≡ e → ⊥) → low_group b r ≡ Err e → r ≡ Err e
 passes b e r other h =
     elim (low_group-err b e r h) [

@@ -1,5 +1,8 @@
 -- Readers of one field.
-use Rattle.std.proofs.Common.{◌≡◌, ℕ, ◌^◌, ◌≤◌, ◌<◌, Bool, true, false, cond, ltb, List, [], ◌∷◌, ◌++◌, length, take, drop, Ok, Err, refl, sym, ap, ◌∙◌, inl, inr, arith}
+use Rattle.std.proofs.Common.{◌≡◌, ℕ, zero, suc, ◌^◌, ◌≤◌, ◌<◌, Bool, true, false, cond, ltb, List, [], ◌∷◌, ◌++◌, length, take, drop, Some, Ok, Err, refl, sym, ap, subst, ◌∙◌, inl, inr, arith}
+use Rattle.std.specs.Prelude.{IsTrue, IsFalse, slice_get}
+use Rattle.std.specs.Int.{w32, to_be_bytes, from_be_bytes}
+use Rattle.std.proofs.lemmas.Nat.{be_bytes_4, from_be_bytes-to_be_bytes_4}
 use Rattle.std.proofs.lemmas.Bool.{lt-ltb, le-ltb, ltb-true, ltb-false}
 use Rattle.std.proofs.lemmas.List.{length-append, length-take, take-append-drop, take_at, drop_at}
 use Rattle.wire.specs.declared.fault.WireFault.{WireFault}
@@ -8,9 +11,9 @@ use Rattle.wire.specs.declared.fault.DataKind.{DataKind}
 use Rattle.wire.specs.declared.fault.DataKind.TheVariants.{Short, NotShortest, TooBig, Zero, Kind}
 use Rattle.wire.specs.Spelling.{AreBytes, varint, varstring}
 use Rattle.wire.specs.Reading.{Read, varint_at, varstring_at}
-use Rattle.wire.specs.Places.{Place, Reading, ◌>>=◌, kind_of, fault_here, moved, spelling_at, limited, number_at, raw_at, text_at, kind_behind, kind_at}
+use Rattle.wire.specs.Places.{Place, Reading, ◌>>=◌, kind_of, fault_here, moved, spelling_at, limited, number_at, raw_at, text_at, kind_behind, kind_at, mapped, is_one_of, byte_of_behind, byte_of_at, u32_at}
 use Rattle.wire.specs.Layout.{IsNumber}
-use Rattle.wire.specs.FirstFault.{FaultHere, NumberFault, RawFault, TextFault, KindFault}
+use Rattle.wire.specs.FirstFault.{FaultHere, NumberFault, RawFault, TextFault, KindFault, ByteFault}
 use Rattle.wire.specs.Readers.{FaultAt, Answers, fault_at, IsReader}
 use Rattle.wire.proofs.NumberLaws.{varint_laws}
 use Rattle.wire.proofs.StringLaws.{varstring_laws}
@@ -135,7 +138,7 @@ module _ (len : ℕ) where
       let long : len ≤ length p.rest = ltb-false (length p.rest) len e in
       (omega (arith, length-take len p.rest), Passes-moved p (take len p.rest) (drop len p.rest) (sym (take-append-drop len p.rest)))
 
-  raw_again : (p : Place) (x rest : List ℕ) → length x ≡ len → p.rest ≡ x ++ rest → raw_at len p ≡ Ok (x, moved p rest)
+  pub raw_again : (p : Place) (x rest : List ℕ) → length x ≡ len → p.rest ≡ x ++ rest → raw_at len p ≡ Ok (x, moved p rest)
   unfolding raw_at
   raw_again p x rest h e =
       let long : ltb (length p.rest) len ≡ false = le-ltb (length p.rest) len (omega (arith, ap length e, length-append x rest)) in
@@ -143,7 +146,7 @@ module _ (len : ℕ) where
       let rest_is : drop len p.rest ≡ rest = ap (drop len) e ∙ drop_at x rest len h in
       rw (long, front_is, rest_is) refl
 
-  raw_told : (p : Place) (kind : DataKind) → AreBytes p.rest → RawFault len p.rest kind → raw_at len p ≡ Err (fault_here p kind)
+  pub raw_told : (p : Place) (kind : DataKind) → AreBytes p.rest → RawFault len p.rest kind → raw_at len p ≡ Err (fault_here p kind)
   unfolding raw_at
   raw_told p Short b h = (let short : ltb (length p.rest) len ≡ true = lt-ltb (length p.rest) len h in rw short refl)
   raw_told p _ b h = absurd h
@@ -155,20 +158,20 @@ module _ (len : ℕ) where
 
 -- ---- kinds
 
-module _ (count : ℕ) where
-  abbrev one_byte : ℕ → List ℕ
-  one_byte k = k ∷ []
+abbrev one : ℕ → List ℕ
+one k = k ∷ []
 
+module _ (count : ℕ) where
   byte_sound : (p : Place) (k : ℕ) (rest : List ℕ) → p.rest ≡ k ∷ rest → (t : Bool) → ltb k count ≡ t
-      → Answers (λ k. k < count) one_byte (FaultHere (KindFault count)) p (cond t (Ok (k, moved p rest)) (Err (fault_here p Kind)))
-  byte_sound p k rest e true h = (ltb-true k count h, Passes-moved p (one_byte k) rest e)
+      → Answers (λ k. k < count) one (FaultHere (KindFault count)) p (cond t (Ok (k, moved p rest)) (Err (fault_here p Kind)))
+  byte_sound p k rest e true h = (ltb-true k count h, Passes-moved p (one k) rest e)
   byte_sound p k rest e false h = here (KindFault count) p Kind (k, rest, e, ltb-false k count h)
 
-  kind_sound : (p : Place) (bytes : List ℕ) → p.rest ≡ bytes → Answers (λ k. k < count) one_byte (FaultHere (KindFault count)) p (kind_behind count p bytes)
+  kind_sound : (p : Place) (bytes : List ℕ) → p.rest ≡ bytes → Answers (λ k. k < count) one (FaultHere (KindFault count)) p (kind_behind count p bytes)
   kind_sound p [] e = here (KindFault count) p Short e
   kind_sound p (k ∷ rest) e = byte_sound p k rest e (ltb k count) refl
 
-  kind_again : (p : Place) (k : ℕ) (rest : List ℕ) → k < count → p.rest ≡ one_byte k ++ rest → kind_at count p ≡ Ok (k, moved p rest)
+  kind_again : (p : Place) (k : ℕ) (rest : List ℕ) → k < count → p.rest ≡ one k ++ rest → kind_at count p ≡ Ok (k, moved p rest)
   unfolding kind_at
   kind_again p k rest h e =
       let below : ltb k count ≡ true = lt-ltb k count h in
@@ -182,7 +185,83 @@ module _ (count : ℕ) where
       ap (kind_behind count p) h.2 ∙ rw past refl
   kind_told p _ b h = absurd h
 
-  pub kind_reader : IsReader (λ k. k < count) one_byte (FaultHere (KindFault count)) (kind_at count)
+  pub kind_reader : IsReader (λ k. k < count) one (FaultHere (KindFault count)) (kind_at count)
   unfolding kind_at
   kind_reader =
       field_reader _ _ _ _ (record { sound = λ p b. kind_sound p p.rest refl; again = kind_again; told = kind_told })
+
+-- ---- bytes of a set
+
+module _ (allowed : List ℕ) where
+  abbrev ByteAnswers : Place → Reading ℕ → Type 0
+  ByteAnswers = Answers (λ b. IsTrue (is_one_of allowed b)) one (FaultHere (ByteFault allowed))
+
+  allowed_sound : (p : Place) (b : ℕ) (rest : List ℕ) → p.rest ≡ b ∷ rest → (t : Bool) → is_one_of allowed b ≡ t
+      → ByteAnswers p (cond t (Ok (b, moved p rest)) (Err (fault_here p Kind)))
+  allowed_sound p b rest e true h = (h, Passes-moved p (one b) rest e)
+  allowed_sound p b rest e false h = here (ByteFault allowed) p Kind (b, rest, e, h)
+
+  byte_of_sound : (p : Place) (bytes : List ℕ) → p.rest ≡ bytes → ByteAnswers p (byte_of_behind allowed p bytes)
+  byte_of_sound p [] e = here (ByteFault allowed) p Short e
+  byte_of_sound p (b ∷ rest) e = allowed_sound p b rest e (is_one_of allowed b) refl
+
+  byte_of_again : (p : Place) (b : ℕ) (rest : List ℕ) → IsTrue (is_one_of allowed b) → p.rest ≡ one b ++ rest → byte_of_at allowed p ≡ Ok (b, moved p rest)
+  unfolding byte_of_at
+  byte_of_again p b rest h e = ap (byte_of_behind allowed p) e ∙ rw h refl
+
+  byte_of_told : (p : Place) (kind : DataKind) → AreBytes p.rest → ByteFault allowed p.rest kind → byte_of_at allowed p ≡ Err (fault_here p kind)
+  unfolding byte_of_at
+  byte_of_told p Short b h = ap (byte_of_behind allowed p) h
+  byte_of_told p Kind b h = ap (byte_of_behind allowed p) h.2 ∙ rw h.3 refl
+  byte_of_told p _ b h = absurd h
+
+  pub byte_of_reader : IsReader (λ b. IsTrue (is_one_of allowed b)) one (FaultHere (ByteFault allowed)) (byte_of_at allowed)
+  unfolding byte_of_at
+  byte_of_reader =
+      field_reader _ _ _ _ (record { sound = λ p b. byte_of_sound p p.rest refl; again = byte_of_again; told = byte_of_told })
+
+  refused_behind : (p : Place) (bytes : List ℕ) (b : ℕ) → Some b ≡ slice_get bytes 0 → IsFalse (is_one_of allowed b) → byte_of_behind allowed p bytes ≡ Err (fault_here p Kind)
+  refused_behind p [] b first not_one = absurd cc
+  refused_behind p (x ∷ rest) b first not_one = (let is : b ≡ x = cc in let none : is_one_of allowed x ≡ false = subst (λ (y : ℕ). IsFalse (is_one_of allowed y)) is not_one in rw none refl)
+
+  pub not_allowed : (p : Place) (b : ℕ) → Some b ≡ slice_get p.rest 0 → IsFalse (is_one_of allowed b) → byte_of_at allowed p ≡ Err (fault_here p Kind)
+  unfolding byte_of_at
+  not_allowed p b first not_one = refused_behind p p.rest b first not_one
+
+-- ---- numbers of four bytes
+
+abbrev four : ℕ → List ℕ
+four n = to_be_bytes w32 n
+
+four_small : (bytes : List ℕ) → AreBytes bytes → from_be_bytes w32 bytes < 2 ^ 32
+four_small bytes b = omega (arith, b 0, b 1, b 2, b 3)
+
+AreBytes-take : (n : ℕ) (bytes : List ℕ) → AreBytes bytes → AreBytes (take n bytes)
+AreBytes-take zero bytes b i = omega arith
+AreBytes-take (suc n) [] b i = omega arith
+AreBytes-take (suc n) (x ∷ bytes) b zero = b 0
+AreBytes-take (suc n) (x ∷ bytes) b (suc i) = AreBytes-take n bytes (λ j. b (suc j)) i
+
+u32_sound : (p : Place) → AreBytes p.rest → (t : Bool) → ltb (length p.rest) 4 ≡ t
+    → Answers (λ n. n < 2 ^ 32) four (FaultHere (RawFault 4)) p (mapped (from_be_bytes w32) (cond t (Err (fault_here p Short)) (Ok (take 4 p.rest, moved p (drop 4 p.rest)))))
+u32_sound p b true e = here (RawFault 4) p Short (ltb-true (length p.rest) 4 e)
+u32_sound p b false e =
+    let long : 4 ≤ length p.rest = ltb-false (length p.rest) 4 e in
+    let bytes = take 4 p.rest in
+    let each : AreBytes bytes = AreBytes-take 4 p.rest b in
+    let len : length bytes ≡ 4 = omega (arith, length-take 4 p.rest) in
+    let spelled : four (from_be_bytes w32 bytes) ≡ bytes = be_bytes_4 bytes (from_be_bytes w32 bytes) len each refl in
+    (four_small bytes each, Passes-moved p (four (from_be_bytes w32 bytes)) (drop 4 p.rest) (sym (take-append-drop 4 p.rest) ∙ ap (λ (front : List ℕ). front ++ drop 4 p.rest) (sym spelled)))
+
+u32_again : (p : Place) (n : ℕ) (rest : List ℕ) → n < 2 ^ 32 → p.rest ≡ four n ++ rest → u32_at p ≡ Ok (n, moved p rest)
+u32_again p n rest h e =
+    ap (λ (r : Reading (List ℕ)). mapped (from_be_bytes w32) r) (raw_again 4 p (four n) rest refl e)
+    ∙ ap (λ (m : ℕ). done m (moved p rest)) (from_be_bytes-to_be_bytes_4 n h)
+
+u32_told : (p : Place) (kind : DataKind) → AreBytes p.rest → RawFault 4 p.rest kind → u32_at p ≡ Err (fault_here p kind)
+u32_told p kind b h = ap (λ (r : Reading (List ℕ)). mapped (from_be_bytes w32) r) (raw_told 4 p kind b h)
+
+pub u32_reader : IsReader (λ n. n < 2 ^ 32) four (FaultHere (RawFault 4)) u32_at
+unfolding raw_at
+u32_reader =
+    field_reader _ _ _ _ (record { sound = λ p b. u32_sound p b (ltb (length p.rest) 4) refl; again = u32_again; told = u32_told })

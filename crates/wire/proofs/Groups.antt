@@ -95,7 +95,7 @@ low_ok false n high rest after e =
     let same = same_read high n after rest e in
     (refl, same.0, same.1)
 
--- a number of two bytes or more is its low group and the number behind it
+-- a number of two bytes or more is its low group and the number after it
 pub low_group-ok : (b n : ℕ) (r : Read ℕ) (rest : List ℕ) → low_group b r ≡ Ok (n, rest) → (high : ℕ) × (r ≡ Ok (high, rest)) × (0 < high) × (b - 128 + 128 * high ≡ n)
 low_group-ok b n (Ok x) rest e =
     let parts = low_ok (eqb x.0 0) n (b - 128 + 128 * x.0) rest x.1 e in

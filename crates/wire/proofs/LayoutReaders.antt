@@ -1,16 +1,16 @@
 -- One reader for every layout, and what follows of its spellings.
-use Rattle.std.proofs.Common.{◌≡◌, ℕ, List, ◌++◌, length, Option, Ok, Err, refl, sym, ap, subst}
+use Rattle.std.proofs.Common.{◌≡◌, ℕ, Bool, true, false, List, [], ◌++◌, length, Option, Some, None, Ok, Err, refl, sym, ap, subst}
 use Rattle.std.specs.List.{flat_map}
 use Rattle.wire.specs.Spelling.{varint}
-use Rattle.wire.specs.Places.{Place, Reading, ◌>>=◌, mapped, number_at, items_at, many_at}
-use Rattle.wire.specs.Layout.{Layout, Nothing, Number, Amount, Raw, Text, Then, Many, Kinds, Frame, spelling, Fits, IsNumber, AreItems, read_at}
-use Rattle.wire.specs.FirstFault.{Faults, FaultHere, NumberFault, Either, BehindValue, ItemsFault, FirstFault}
+use Rattle.wire.specs.Places.{Place, Reading, ◌>>=◌, mapped, number_at, items_at, many_at, when_at}
+use Rattle.wire.specs.Layout.{Layout, Nothing, Number, Amount, Raw, Text, Then, Many, Kinds, Frame, ByteOf, U32, Given, When, spelling, when_spelling, WhenFits, Fits, IsNumber, AreItems, read_at}
+use Rattle.wire.specs.FirstFault.{Faults, FaultHere, NumberFault, NoFault, WhenFault, Either, BehindValue, ItemsFault, FirstFault}
 use Rattle.wire.specs.Readers.{IsReader}
 use Rattle.wire.specs.LayoutLaws.{LayoutLaws}
 use Rattle.wire.proofs.Readers.{both_reader, nothing_reader}
 use Rattle.wire.specs.Records.{mapped_reader, same_reader}
 use Rattle.wire.proofs.ListReaders.{ItemsFit, items_reader, IsWithin-none}
-use Rattle.wire.proofs.FieldReaders.{number_reader, text_reader, raw_reader, kind_reader}
+use Rattle.wire.proofs.FieldReaders.{number_reader, text_reader, raw_reader, kind_reader, byte_of_reader, u32_reader}
 use Rattle.wire.proofs.WholeReaders.{frame_reader}
 use Rattle.wire.proofs.FaultPlaces.{fault_within, all_within}
 use Rattle.wire.proofs.SpellingLaws.{spelling_laws}
@@ -53,6 +53,21 @@ module _ {X : Type 0} (most : ℕ) (room : Option ℕ) (fits : X → Type 0) (sp
       })
       counted)
 
+-- ---- what stands there only where something holds
+
+some_back : {X : Type 0} (fits : X → Type 0) (spell : X → List ℕ) (v : Option X) → WhenFits true fits v → (x : X) × fits x × (Some x ≡ v) × (when_spelling spell v ≡ spell x)
+some_back fits spell (Some x) h = (x, h, refl, refl)
+some_back fits spell None h = absurd h
+
+none_back : {X : Type 0} (fits : X → Type 0) (spell : X → List ℕ) (v : Option X) → WhenFits false fits v → (u : Unit {0}) × Unit {0} × (None ≡ v) × (when_spelling spell v ≡ [])
+none_back fits spell (Some x) h = absurd h
+none_back fits spell None h = (tt, tt, refl, refl)
+
+when_reader : {X : Type 0} (there : Bool) (fits : X → Type 0) (spell : X → List ℕ) (F : Faults) (read : Place → Reading X) → IsReader fits spell F read
+    → IsReader (WhenFits there fits) (when_spelling spell) (WhenFault there F) (when_at there read)
+when_reader true fits spell F read one = mapped_reader fits spell (WhenFits true fits) (when_spelling spell) F read Some (record { there = λ x h. (h, refl); back = some_back fits spell }) one
+when_reader false fits spell F read one = mapped_reader (λ v. Unit {0}) (λ v. []) (WhenFits false fits) (when_spelling spell) NoFault (λ p. Ok (tt, p)) (λ v. None) (record { there = λ v h. (tt, refl); back = none_back fits spell }) nothing_reader
+
 -- ---- all layouts
 
 pub reader : (layout : Layout) → IsReader (Fits layout) (spelling layout) (FirstFault layout) (read_at layout)
@@ -65,6 +80,10 @@ reader (Then first second) = both_reader _ _ _ _ (reader first) _ _ _ _ (λ x h.
 reader (Many most room each) = many_reader most room _ _ _ _ (reader each)
 reader (Kinds count kind) = both_reader _ _ _ _ (kind_reader count) _ _ _ _ (λ k h. reader (kind k))
 reader (Frame most held) = frame_reader _ _ _ _ (reader held) most
+reader (ByteOf allowed) = byte_of_reader allowed
+reader U32 = u32_reader
+reader (Given most rest) = both_reader _ _ _ _ (number_reader 0 most) _ _ _ _ (λ n h. reader (rest n))
+reader (When there field) = when_reader there _ _ _ _ (reader field)
 
 pub layout_laws : LayoutLaws
 layout_laws = record {

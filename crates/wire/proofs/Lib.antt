@@ -14,3 +14,4 @@ pub mod FaultPlaces
 pub mod Turning
 pub mod WholeFiles
 pub mod Torn
+pub mod Digits

@@ -86,7 +86,7 @@ module _ {X : Type 0} (fits : X → Type 0) (spell : X → List ℕ) (F : Faults
     abbrev rest_at : Place → ℕ → X × Place → Reading (List X)
     rest_at p size x = cond (passes_room room (used + size)) (Err (fault_here p TooBig)) (items_at room read n (used + size) x.1)
 
-    -- how a record and those behind it are read
+    -- how a record and those after it are read
     chosen : (p : Place) (x : X × Place) (t : Bool) → (cond t (Err (fault_here p TooBig)) (Ok x) >>= λ first. pushed first.0 (items_at room read n (used + (first.1.at - p.at)) first.1))
         ≡ pushed x.0 (cond t (Err (fault_here p TooBig)) (items_at room read n (used + (x.1.at - p.at)) x.1))
     chosen p x true = refl
@@ -119,7 +119,7 @@ module _ {X : Type 0} (fits : X → Type 0) (spell : X → List ℕ) (F : Faults
         subst (λ (k : ℕ). Whole p (pushed x.0 (rest_at p k x))) size (room_sound p b x h.0 h.1 (passes_room room (used + length (spell x.0))) refl)
     first_sound p b (Err f) h = record { off = h.off; at = h.at; first = inl h.first }
 
-    -- one record was read, and the others are read behind it
+    -- one record was read, and the others are read after it
     first_read : (p : Place) (x : X) (q : Place) → fits x → Passes p (spell x) q → items_at room read (suc n) used p ≡ pushed x (rest_at p (length (spell x)) (x, q))
     first_read p x q h m =
         let e : read p ≡ Ok (x, q) = one.again p x q h m in

@@ -27,7 +27,7 @@ Passes-then p a q b r m n = record {
 pub Passes-none : (p : Place) → Passes p [] p
 Passes-none p = record { bytes = refl; at = omega arith }
 
--- the place behind so many bytes
+-- the place after so many bytes
 abbrev pub behind : Place → List ℕ → List ℕ → Place
 behind p front rest = record { at = p.at + length front; rest = rest }
 

@@ -11,9 +11,9 @@ use Rattle.wire.specs.Laws.{VarstringLaws}
 use Rattle.wire.proofs.Groups.{read, failed, same_read}
 use Rattle.wire.proofs.NumberLaws.{Gives, front_of, taken_is, varint_again, varint_spelled, varint_too_big, varint_short, varint_not_shortest}
 
--- ---- a string behind a length that was read
+-- ---- a string after a length that was read
 
--- so many bytes behind a length, and the rest
+-- so many bytes after a length, and the rest
 pub record Cuts (most len : ℕ) (after s rest : List ℕ) : Type 0 where
   pub allowed : len ≤ most
   pub long : len ≤ length after
@@ -79,7 +79,7 @@ varstring_is x = refl
 same_failed : (f g : WireFault) → failed {A = List ℕ} f ≡ failed g → failed {A = ℕ} f ≡ failed g
 same_failed f g e = (let same : f ≡ g = cc in ap (λ (w : WireFault). failed w) same)
 
--- why a string behind its length is refused
+-- why a string after its length is refused
 too_long : (t u : Bool) (s rest : List ℕ) → cond t (failed TooBig) (cond u (failed Short) (read s rest)) ≡ failed TooBig → t ≡ true
 too_long true u s rest h = refl
 too_long false true s rest h = absurd cc

@@ -62,7 +62,7 @@ frame_some : {X : Type 0} (most : ℕ) (fits : X → Type 0) (spell : X → List
 frame_some most fits spell x one =
     omega (arith, varint_laws.some (length (spell x)) one.1.spelled, ap length (varstring-is (spell x)), length-append (varint (length (spell x))) (spell x))
 
--- fewer bytes are left behind a frame than before it
+-- fewer bytes are left after a frame than before it
 pub frame_passed : {X : Type 0} (most : ℕ) (fits : X → Type 0) (spell : X → List ℕ) (x : X) (p q : Place) → FrameFits most fits spell x × Passes p (frame_spelling spell x) q → length q.rest < length p.rest
 frame_passed most fits spell x p q h =
     omega (arith, frame_some most fits spell x h.0, ap length h.1.bytes, length-append (frame_spelling spell x) q.rest)

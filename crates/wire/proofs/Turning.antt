@@ -1,9 +1,9 @@
--- The length of a record, which is written behind it, is brought in front of it.
+-- The length of a record, which is written after it, is brought in front of it.
 use Rattle.std.proofs.Common.{◌≡◌, ℕ, ◌-◌, List, ◌++◌, length, take, drop, refl, ◌∙◌, ap, append_assoc, length-append, arith}
 use Rattle.std.proofs.Math.Seq.{take-append_seam, drop-append_seam}
 use Rattle.wire.specs.Spelling.{varint, varstring}
 
--- what stands behind so many bytes, those from this place on, is brought in front of them
+-- what stands after so many bytes, those from this place on, is brought in front of them
 abbrev turned : ℕ → ℕ → List ℕ → List ℕ
 turned from len bytes = take from bytes ++ (drop len (drop from bytes) ++ take len (drop from bytes))
 

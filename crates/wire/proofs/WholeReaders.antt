@@ -1,4 +1,4 @@
--- Readers of all of the bytes, and of a record behind its length.
+-- Readers of all of the bytes, and of a record after its length.
 use Rattle.std.proofs.Common.{◌≡◌, ℕ, zero, suc, ◌+◌, ◌-◌, ◌≤◌, Bool, true, false, cond, eqb, List, [], ◌∷◌, ◌++◌, length, take, drop, Result, Ok, Err, refl, sym, ap, subst, ◌∙◌, append_assoc, inl, inr, arith}
 use Rattle.std.proofs.lemmas.Bool.{eqb-true, ne_eqb}
 use Rattle.std.proofs.lemmas.List.{append-nil, length-append, nil_from_length, take-append-drop}
@@ -70,7 +70,7 @@ module _ {X : Type 0} (fits : X → Type 0) (spell : X → List ℕ) (F : Faults
     told = whole_told;
   }
 
-  -- ---- behind a length
+  -- ---- after a length
 
   module _ (most : ℕ) where
     abbrev Framed : X → Type 0
@@ -82,7 +82,7 @@ module _ {X : Type 0} (fits : X → Type 0) (spell : X → List ℕ) (F : Faults
     abbrev FramedFault : Faults
     FramedFault = FrameFault most fits spell F
 
-    -- the bytes of a string stand behind their length
+    -- the bytes of a string stand after their length
     prefix : (text : List ℕ) → length (varstring text) ≡ length (varint (length text)) + length text
     unfolding varstring
     prefix text = length-append (varint (length text)) text

@@ -1,7 +1,6 @@
--- Records that are declared: a layout, the parts of a record, the record that is made of them, and a reader of it, each
--- put together from those of its fields; and that the laws of records hold of them.
-use Rattle.std.specs.Prelude.{◌≡◌, ◌<◌, ◌+◌, ℕ, zero, suc, List, [], ◌∷◌, map, Option, Result}
-use Rattle.std.specs.Prelude.{Ok, Err, refl}
+-- Records that are declared: a layout, the parts of a record, the record that is made of them, and a reader of it,
+-- each put together from those of its fields; and that the laws of records hold of them. Laws with their proofs.
+use Rattle.std.specs.Prelude.{◌≡◌, ◌<◌, ◌+◌, ℕ, zero, suc, List, [], ◌∷◌, map, Option, Result, Ok, Err, ◌↔◌, refl}
 use Rattle.std.specs.List.{AllByRecursion}
 use Rattle.std.proofs.Common.{sym, ap, subst, ◌∙◌, arith}
 use Rattle.wire.specs.Spelling.{AreBytes}
@@ -11,7 +10,7 @@ use Rattle.wire.specs.FirstFault.{WholeFault, FirstFault, FirstFaultOfAll}
 use Rattle.wire.specs.Readers.{FaultAt, WholeAnswers, IsReader, IsWholeReader}
 use Rattle.wire.specs.LayoutLaws.{SpellingLaws, LayoutLaws, RecordLaws}
 use Rattle.wire.specs.Records.{StandFor, left_there, left_back, same_reader, HasParts, record_reader, both_of}
-use Rattle.wire.specs.Records.{then_same, many_same, kinds_same, mapped-mapped}
+use Rattle.wire.specs.Records.{fits_reader, fits_stand, parts_stand, then_same, many_same, kinds_same, mapped-mapped}
 
 -- ---- what holds of the reading of a record
 
@@ -76,6 +75,17 @@ pub declared_reader : {B : Type 0} (layout : Layout) (made : Value layout → B)
     → IsReader (λ b. Fits layout (parts b)) (λ b. spelling layout (parts b)) (FirstFault layout) read
 declared_reader layout made parts read d laws =
     same_reader _ _ _ _ _ d.same (record_reader layout made parts d.has (laws.reader layout))
+
+-- the same, where what is within the limits is said by the names of the fields
+module _ {B : Type 0} (layout : Layout) (made : Value layout → B) (parts : B → Value layout)
+    (fits : B → Type 0) (same : (b : B) → fits b ↔ Fits layout (parts b)) where
+  pub named_stand : HasParts layout made parts
+      → StandFor (Fits layout) (spelling layout) fits (λ b. spelling layout (parts b)) made
+  named_stand has = fits_stand _ fits same _ _ _ made (parts_stand layout made parts has)
+
+  pub named_reader : (read : Place → Reading B) → Declared layout made parts read → LayoutLaws
+      → IsReader fits (λ b. spelling layout (parts b)) (FirstFault layout) read
+  named_reader read d laws = fits_reader _ fits same _ _ read (declared_reader layout made parts read d laws)
 
 -- a field as it is
 abbrev pub itself : {X : Type 0} → X → X
@@ -145,7 +155,7 @@ module _ {A B C : Type 0} (first : A → C) (second : B → C) (read_a : Place �
     either_behind zero place = mapped first (read_a place)
     either_behind (suc k) place = mapped second (read_b place)
 
-    -- what stands behind the number of its kind, 0 or 1
+    -- what stands after the number of its kind, 0 or 1
     abbrev pub either_at : Place → Reading C
     either_at place = kind_at 2 place >>= λ k. either_behind k.0 k.1
 
@@ -162,7 +172,7 @@ module _ {A B C : Type 0} (a b : Layout) (made_a : Value a → A) (parts_a : A �
   abbrev pub either_made : Value (Kinds 2 kinds) → C
   either_made v = kind_made v.0 v.1
 
-  -- the number of a kind, and the parts of what stands behind it
+  -- the number of a kind, and the parts of what stands after it
   pub record IsEither : Type 0 where
     pub first_parts : (x : A) → parts (first x) ≡ (0, parts_a x)
     pub second_parts : (y : B) → parts (second y) ≡ (1, parts_b y)

@@ -34,7 +34,7 @@ abbrev pub FileReadsAs : {X : Type 0} → (X → Type 0) → (X → List ℕ) �
 FileReadsAs fits spell F bytes (Ok xs) = AllByRecursion fits xs × (bytes ≡ flat_map spell xs)
 FileReadsAs fits spell F bytes (Err fault) = FirstFileFault fits spell F bytes fault
 
--- the same of a file of records that stand behind their lengths, each of at most so many bytes
+-- the same of a file of records that stand after their lengths, each of at most so many bytes
 abbrev pub FramesReadAs : {X : Type 0} → ℕ → (X → Type 0) → (X → List ℕ) → Faults → List ℕ
     → Result (List X) FileFault
     → Type 0
@@ -61,7 +61,7 @@ pub record FileLaws {X : Type 0} (fits : X → Type 0) (spell : X → List ℕ) 
       → AllByRecursion fits ys
       → flat_map spell xs ≡ flat_map spell ys
       → xs ≡ ys
-  -- files one behind the other are a file of all their records
+  -- files one after the other are a file of all their records
   pub joined :
       (a b : List ℕ) (xs ys : List X)
       → FileReadsAs fits spell F a (Ok xs)
@@ -75,13 +75,13 @@ pub record FileLaws {X : Type 0} (fits : X → Type 0) (spell : X → List ℕ) 
       × (bytes ≡ a ++ b)
       × FileReadsAs fits spell F a (Ok xs)
       × FileReadsAs fits spell F b (Ok ys)
-  -- a record behind a file
+  -- a record after a file
   pub pushed :
       (bytes : List ℕ) (xs : List X) (x : X)
       → FileReadsAs fits spell F bytes (Ok xs)
       → fits x
       → FileReadsAs fits spell F (bytes ++ spell x) (Ok (xs ++ x ∷ []))
-  -- a fault behind a file
+  -- a fault after a file
   pub behind :
       (a b : List ℕ) (xs : List X) (f : FileFault)
       → FileReadsAs fits spell F a (Ok xs)
@@ -89,10 +89,10 @@ pub record FileLaws {X : Type 0} (fits : X → Type 0) (spell : X → List ℕ) 
       → FirstFileFault fits spell F (a ++ b)
       (record { index = length xs + f.index; at = length a + f.at; kind = f.kind })
 
--- of a file of records that stand behind their lengths
+-- of a file of records that stand after their lengths
 pub record FrameLaws {X : Type 0} (most : ℕ) (fits : X → Type 0) (spell : X → List ℕ) (F : Faults) : Type 0 where
   pub file : FileLaws (FrameFits most fits spell) (frame_spelling spell) (FrameFault most fits spell F)
-  -- a record behind a file, of which only some first bytes are there, is short at its first byte
+  -- a record after a file, of which only some first bytes are there, is short at its first byte
   pub torn :
       (bytes : List ℕ) (xs : List X) (x : X) (k : ℕ)
       → FramesReadAs most fits spell F bytes (Ok xs)
@@ -104,7 +104,7 @@ pub record FrameLaws {X : Type 0} (most : ℕ) (fits : X → Type 0) (spell : X 
 
 -- ---- what a function of the code answered, against these
 
--- A fault is the one that reading gives. Want of memory is free.
+-- A fault is the one that reading gives. Out of memory is free.
 abbrev pub FileFails : {X : Type 0} → FramesFault → Result (List X) FileFault → Type 0
 FileFails NoMemory reading = Unit {0}
 FileFails (At index at kind) reading = reading ≡ Err (record { index = index; at = at; kind = kind })

@@ -1,13 +1,14 @@
 -- The first fault of bytes that begin with no spelling of a layout: all fields before it are spelled, and a kind's
 -- condition holds of the next. Its place is counted from the first of the bytes.
 use Rattle.std.specs.Prelude.{◌≡◌, ℕ, zero, suc, ◌+◌, ◌^◌, ◌≤◌, ◌<◌, ◌⊎◌, List, [], ◌∷◌, ◌++◌, length, Option, Some}
-use Rattle.std.specs.Prelude.{None}
+use Rattle.std.specs.Prelude.{None, Bool, true, false, IsFalse}
 use Rattle.wire.specs.declared.fault.DataKind.{DataKind}
 use Rattle.wire.specs.declared.fault.DataKind.TheVariants.{Short, NotShortest, TooBig, Zero, Kind, Trailing}
 use Rattle.wire.specs.Spelling.{varint, varstring}
 use Rattle.wire.specs.Reading.{IsTooBig, IsShort, IsNotShortest, IsTooBigString, IsShortString}
-use Rattle.wire.specs.Layout.{Layout, Nothing, Number, Amount, Raw, Text, Then, Many, Kinds, Frame, spelling}
-use Rattle.wire.specs.Layout.{Fits, IsNumber, IsWithin}
+use Rattle.wire.specs.Places.{is_one_of}
+use Rattle.wire.specs.Layout.{Layout, Nothing, Number, Amount, Raw, Text, Then, Many, Kinds, Frame, ByteOf, U32}
+use Rattle.wire.specs.Layout.{Given, When, spelling, Fits, IsNumber, IsWithin}
 
 -- ---- fields
 
@@ -43,6 +44,12 @@ KindFault count bytes Short = bytes ≡ []
 KindFault count bytes Kind = (b : ℕ) × (rest : List ℕ) × (bytes ≡ b ∷ rest) × (count ≤ b)
 KindFault count bytes _ = ⊥
 
+-- no byte is there, or one that is not allowed
+abbrev pub ByteFault : List ℕ → List ℕ → DataKind → Type 0
+ByteFault allowed bytes Short = bytes ≡ []
+ByteFault allowed bytes Kind = (b : ℕ) × (rest : List ℕ) × (bytes ≡ b ∷ rest) × IsFalse (is_one_of allowed b)
+ByteFault allowed bytes _ = ⊥
+
 -- ---- places
 
 -- what is said of a fault of these bytes: its place and its kind
@@ -61,7 +68,7 @@ pub record FaultBehind (F : Faults) (front rest bytes : List ℕ) (at : ℕ) (ki
   pub fault : F rest place kind
   pub further : at ≡ length front + place
 
--- a value that fits is spelled at the front, and the fault stands behind it
+-- a value that fits is spelled at the front, and the fault stands after it
 pub record BehindValue {X : Type 0} (fits : X → Type 0) (spell : X → List ℕ) (F : X → Faults) (bytes : List ℕ)
     (at : ℕ) (kind : DataKind) : Type 0 where
   pub value : X
@@ -71,6 +78,11 @@ pub record BehindValue {X : Type 0} (fits : X → Type 0) (spell : X → List �
 
 abbrev pub NoFault : Faults
 NoFault bytes at why = ⊥
+
+-- what is not there has no fault
+abbrev pub WhenFault : Bool → Faults → Faults
+WhenFault false F = NoFault
+WhenFault true F = F
 
 abbrev pub Either : Faults → Faults → Faults
 Either F G bytes at why = F bytes at why ⊎ G bytes at why
@@ -95,8 +107,8 @@ pub record RoomFault {X : Type 0} (fits : X → Type 0) (spell : X → List ℕ)
 abbrev pub FitsRoom : {X : Type 0} → (X → Type 0) → (X → List ℕ) → Option ℕ → ℕ → X → Type 0
 FitsRoom fits spell room used x = fits x × IsWithin room (used + length (spell x))
 
--- The fault of so many records behind others that took so many bytes: that of the first one, or that the first one
--- takes too many, or a fault behind it.
+-- The fault of so many records after others that took so many bytes: that of the first one, or that the first one
+-- takes too many, or a fault after it.
 abbrev pub ItemsFault : {X : Type 0} → (X → Type 0) → (X → List ℕ) → Faults → Option ℕ → (n used : ℕ) → Faults
 ItemsFault fits spell each room zero used = NoFault
 ItemsFault fits spell each room (suc n) used =
@@ -107,7 +119,7 @@ ItemsFault fits spell each room (suc n) used =
 
 -- ---- wholes
 
--- a byte behind all that is spelled
+-- a byte after all that is spelled
 pub record Left {X : Type 0} (fits : X → Type 0) (spell : X → List ℕ) (bytes : List ℕ) (at : ℕ) (kind : DataKind)
     : Type 0 where
   pub value : X
@@ -122,7 +134,7 @@ pub record Left {X : Type 0} (fits : X → Type 0) (spell : X → List ℕ) (byt
 abbrev pub WholeFault : {X : Type 0} → (X → Type 0) → (X → List ℕ) → Faults → Faults
 WholeFault fits spell F = Either F (Left fits spell)
 
--- so many bytes behind a length, and a fault of them
+-- so many bytes after a length, and a fault of them
 pub record InFrame (most : ℕ) (F : Faults) (bytes : List ℕ) (at : ℕ) (kind : DataKind) : Type 0 where
   pub held : List ℕ
   pub rest : List ℕ
@@ -132,7 +144,7 @@ pub record InFrame (most : ℕ) (F : Faults) (bytes : List ℕ) (at : ℕ) (kind
   pub fault : F held place kind
   pub further : at ≡ length (varint (length held)) + place
 
--- the fault of a record behind its length: that of the length, or of the bytes behind it
+-- the fault of a record after its length: that of the length, or of the bytes after it
 abbrev pub FrameFault : {X : Type 0} → ℕ → (X → Type 0) → (X → List ℕ) → Faults → Faults
 FrameFault most fits spell F = Either (FaultHere (TextFault most)) (InFrame most (WholeFault fits spell F))
 
@@ -152,6 +164,11 @@ FirstFault (Many most room each) =
 FirstFault (Kinds count kind) =
     Either (FaultHere (KindFault count)) (BehindValue (λ k. k < count) (λ k. k ∷ []) (λ k. FirstFault (kind k)))
 FirstFault (Frame most held) = FrameFault most (Fits held) (spelling held) (FirstFault held)
+FirstFault (ByteOf allowed) = FaultHere (ByteFault allowed)
+FirstFault U32 = FaultHere (RawFault 4)
+FirstFault (Given most rest) =
+    Either (FaultHere (NumberFault 0 most)) (BehindValue (IsNumber 0 most) varint (λ n. FirstFault (rest n)))
+FirstFault (When there field) = WhenFault there (FirstFault field)
 
 -- the first fault of bytes that should all be one record
 abbrev pub FirstFaultOfAll : Layout → Faults

@@ -11,3 +11,7 @@ pub mod Declaring
 pub mod Files
 pub mod Kinds
 pub mod Tables
+pub mod Decimal
+pub mod Strings
+pub mod Decisions
+pub mod Lists

@@ -1,6 +1,8 @@
 -- Reading from left to right, from one place of the bytes to the next, with the first fault that is met.
-use Rattle.std.specs.Prelude.{ℕ, zero, suc, Bool, false, ◌+◌, ◌-◌, ◌≡◌, List, [], ◌∷◌, length, take, drop}
+use Rattle.std.specs.Prelude.{ℕ, zero, suc, Bool, true, false, ◌+◌, ◌-◌, ◌≡◌, List, [], ◌∷◌, length, take, drop}
 use Rattle.std.specs.Prelude.{Option, Some, None, Result, Ok, Err, nat_lt, ◌==◌, if◌then◌else◌}
+use Rattle.std.specs.Int.{w32, from_be_bytes}
+use Rattle.std.specs.List.{list_any}
 use Rattle.wire.specs.declared.fault.WireFault.{WireFault}
 use Rattle.wire.specs.declared.fault.WireFault.TheVariants as wire
 use Rattle.wire.specs.declared.fault.DataKind.{DataKind}
@@ -99,6 +101,36 @@ kind_at count place = kind_behind count place place.rest
 abbrev pub kinds_at : {X : ℕ → Type 0} → ℕ → ((k : ℕ) → Place → Reading (X k)) → Place → Reading ((k : ℕ) × X k)
 kinds_at count each place = kind_at count place >>= λ k. each k.0 k.1 >>= λ x. Ok ((k.0, x.0), x.1)
 
+-- ---- bytes of a set, and numbers of four bytes
+
+abbrev pub is_one_of : List ℕ → ℕ → Bool
+is_one_of allowed b = list_any (λ a. a == b) allowed
+
+-- one of the bytes that are allowed, and the rest
+abbrev pub byte_of_behind : List ℕ → Place → List ℕ → Reading ℕ
+byte_of_behind allowed place [] = Err (fault_here place Short)
+byte_of_behind allowed place (b ∷ rest) =
+    if is_one_of allowed b then Ok (b, moved place rest) else Err (fault_here place Kind)
+
+-- one of the bytes that are allowed
+unfoldable pub byte_of_at : List ℕ → Place → Reading ℕ
+byte_of_at allowed place = byte_of_behind allowed place place.rest
+
+-- four bytes, the most significant first
+abbrev pub u32_at : Place → Reading ℕ
+u32_at place = mapped (from_be_bytes w32) (raw_at 4 place)
+
+-- ---- what depends on what was read
+
+-- a number, and what follows it
+abbrev pub given_at : {X : ℕ → Type 0} → ℕ → ((n : ℕ) → Place → Reading (X n)) → Place → Reading ((n : ℕ) × X n)
+given_at most rest place = number_at 0 most place >>= λ n. rest n.0 n.1 >>= λ x. Ok ((n.0, x.0), x.1)
+
+-- what stands there only where this holds
+abbrev pub when_at : {X : Type 0} → Bool → (Place → Reading X) → Place → Reading (Option X)
+when_at false read place = Ok (None, place)
+when_at true read place = mapped Some (read place)
+
 -- ---- lists
 
 -- so many bytes pass the room that there is
@@ -111,11 +143,11 @@ abbrev pub in_room : {X : Type 0} → Option ℕ → (used : ℕ) → Place → 
 in_room room used place x =
     if passes_room room (used + (x.1.at - place.at)) then Err (fault_here place TooBig) else Ok x
 
--- a record behind others that took so many bytes
+-- a record after others that took so many bytes
 abbrev pub item_at : {X : Type 0} → Option ℕ → (Place → Reading X) → (used : ℕ) → Place → Reading X
 item_at room each used place = each place >>= in_room room used place
 
--- so many of one kind, behind others that took so many bytes
+-- so many of one kind, after others that took so many bytes
 unfoldable pub items_at : {X : Type 0} → Option ℕ → (Place → Reading X) → (n used : ℕ) → Place → Reading (List X)
 items_at room each zero used place = Ok ([], place)
 items_at room each (suc n) used place = do
@@ -148,7 +180,7 @@ frame_at most held place =
 
 -- ---- what a function of the code answered, against these
 
--- A fault is the one that reading gives. Want of memory is free.
+-- A fault is the one that reading gives. Out of memory is free.
 abbrev pub Fails : {X : Type 0} → DataFault → Result X Fault → Type 0
 Fails NoMemory reading = Unit {0}
 Fails (At at kind) reading = reading ≡ Err (record { at = at; kind = kind })

@@ -23,7 +23,7 @@ abbrev pub Answers : {X : Type 0} → (X → Type 0) → (X → List ℕ) → Fa
 Answers fits spell F from (Ok x) = fits x.0 × Passes from (spell x.0) x.1
 Answers fits spell F from (Err fault) = FaultAt F from fault
 
--- the same of a function of the code, which goes to another place. Want of memory is free.
+-- the same of a function of the code, which goes to another place. Out of memory is free.
 abbrev pub Answered : {X : Type 0} → (X → Type 0) → (X → List ℕ) → Faults → (from to : Place) → Result X DataFault
     → Type 0
 Answered fits spell F from to (Ok x) = fits x × Passes from (spell x) to

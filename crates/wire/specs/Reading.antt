@@ -30,7 +30,7 @@ varint_at bytes = groups_at 8 bytes
 abbrev pub cut_at : ℕ → List ℕ → Read (List ℕ)
 cut_at len bytes = if nat_lt (length bytes) len then Err Short else Ok (take len bytes, drop len bytes)
 
--- a string behind its length, which is tested against the most before its bytes are looked for
+-- a string after its length, which is tested against the most before its bytes are looked for
 abbrev pub string_behind : ℕ → Read ℕ → Read (List ℕ)
 string_behind most (Ok len) = if nat_lt most len.0 then Err TooBig else cut_at len.0 len.1
 string_behind most (Err e) = Err e
@@ -60,7 +60,7 @@ abbrev pub IsTooBigString : ℕ → List ℕ → Type 0
 IsTooBigString most bytes = IsTooBig bytes
     ⊎ ((n : ℕ) × (rest : List ℕ) × (bytes ≡ varint n ++ rest) × (n < 2 ^ 63) × (most < n))
 
--- a length that is cut short, or one of at most the most with fewer bytes behind it
+-- a length that is cut short, or one of at most the most with fewer bytes after it
 abbrev pub IsShortString : ℕ → List ℕ → Type 0
 IsShortString most bytes = IsShort bytes
     ⊎ ((n : ℕ) × (rest : List ℕ) × (bytes ≡ varint n ++ rest) × (n < 2 ^ 63) × (n ≤ most) × (length rest < n))

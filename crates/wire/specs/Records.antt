@@ -1,6 +1,7 @@
--- Readers of records, made of the readers of their layouts: what is read is another value of the same spelling.
+-- Readers of records, made of the readers of their layouts: what is read is another value of the same spelling. Laws
+-- with their proofs.
 use Rattle.std.specs.Prelude.{◌≡◌, ◌==◌, ◌+◌, ◌-◌, ℕ, zero, suc, Bool, true, false, cond, List, [], ◌∷◌, ◌++◌, map}
-use Rattle.std.specs.Prelude.{length, Option, Ok, Err, refl}
+use Rattle.std.specs.Prelude.{length, Option, Ok, Err, ◌↔◌, refl}
 use Rattle.std.specs.List.{flat_map, AllByRecursion}
 use Rattle.std.proofs.Common.{sym, ap, subst, ◌∙◌, inl, inr}
 use Rattle.std.proofs.lemmas.List.Concat.{flat_map-cons}
@@ -8,9 +9,8 @@ use Rattle.std.proofs.lemmas.List.{length-map}
 use Rattle.wire.specs.Spelling.{varint}
 use Rattle.wire.specs.declared.fault.DataKind.{DataKind}
 use Rattle.wire.specs.declared.fault.DataKind.TheVariants.{TooBig, Trailing}
-use Rattle.wire.specs.Places.{Place, Reading, ◌>>=◌, mapped, then_at, kind_at, kinds_at, fault_here}
-use Rattle.wire.specs.Places.{passes_room, in_room, items_at, many_at, number_at}
-use Rattle.wire.specs.Places.{ended, whole_at, text_at, inside, frame_at}
+use Rattle.wire.specs.Places.{Place, Reading, ◌>>=◌, mapped, then_at, kind_at, kinds_at, fault_here, passes_room}
+use Rattle.wire.specs.Places.{in_room, items_at, many_at, number_at, ended, whole_at, text_at, inside, frame_at}
 use Rattle.wire.specs.Layout.{Layout, Value, spelling, Fits, read_at}
 use Rattle.wire.specs.FirstFault.{Faults, WholeFault, FirstFault}
 use Rattle.wire.specs.Readers.{Passes, Answers, IsReader}
@@ -49,7 +49,7 @@ module _ {A B : Type 0} (fitsA : A → Type 0) (spellA : A → List ℕ) (fitsB 
 
 module _ {A B : Type 0} (fitsA : A → Type 0) (spellA : A → List ℕ) (fitsB : B → Type 0) (spellB : B → List ℕ)
     (F : Faults) (to : A → B) where
-  -- what is left behind the one is left behind the other
+  -- what is left after the one is left after the other
   pub left_there : StandFor fitsA spellA fitsB spellB to → (bytes : List ℕ) (at : ℕ) (kind : DataKind)
       → WholeFault fitsA spellA F bytes at kind
       → WholeFault fitsB spellB F bytes at kind
@@ -92,6 +92,29 @@ same_reader {X} fits spell F read other same r = record {
   again = λ p x q h m. sym (same p) ∙ r.again p x q h m;
   told = λ p off kind b h. sym (same p) ∙ r.told p off kind b h;
 }
+
+-- the same values, named in another way
+module _ {X : Type 0} (fits other : X → Type 0) (same : (x : X) → other x ↔ fits x) where
+  fits_sound : (spell : X → List ℕ) (F : Faults) (p : Place) (r : Reading X) → Answers fits spell F p r
+      → Answers other spell F p r
+  fits_sound spell F p (Ok x) h = ((same x.0).1 h.0, h.1)
+  fits_sound spell F p (Err f) h = h
+
+  pub fits_reader : (spell : X → List ℕ) (F : Faults) (read : Place → Reading X) → IsReader fits spell F read
+      → IsReader other spell F read
+  fits_reader spell F read r = record {
+    sound = λ p b. fits_sound spell F p (read p) (r.sound p b);
+    again = λ p x q h m. r.again p x q ((same x).0 h) m;
+    told = r.told;
+  }
+
+  pub fits_stand : {A : Type 0} (fits_a : A → Type 0) (spell_a : A → List ℕ) (spell : X → List ℕ) (to : A → X)
+      → StandFor fits_a spell_a fits spell to
+      → StandFor fits_a spell_a other spell to
+  fits_stand fits_a spell_a spell to stand = record {
+    there = λ a h. (let b = stand.there a h in ((same (to a)).1 b.0, b.1));
+    back = λ b h. stand.back b ((same b).0 h);
+  }
 
 -- ---- a record is the values of its layout
 

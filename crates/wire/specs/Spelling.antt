@@ -1,10 +1,14 @@
 -- How numbers and strings are spelled in bytes.
-use Rattle.std.specs.Prelude.{ℕ, zero, suc, ◌+◌, ◌*◌, ◌/◌, ◌%◌, ◌<◌, List, [], ◌∷◌, ◌++◌, length, nat_lt}
+use Rattle.std.specs.Prelude.{ℕ, zero, suc, ◌+◌, ◌-◌, ◌*◌, ◌^◌, ◌/◌, ◌%◌, ◌<◌, List, [], ◌∷◌, ◌++◌, length, nat_lt}
 use Rattle.std.specs.Prelude.{if◌then◌else◌, slice_index}
 
 -- each is below 256
 abbrev pub AreBytes : List ℕ → Type 0
 AreBytes bytes = (i : ℕ) → slice_index bytes i < 256
+
+-- the greatest number that is spelled
+abbrev pub greatest : ℕ
+greatest = 2 ^ 63 - 1
 
 -- the least number that needs more than so many groups and one more
 abbrev pub limit : ℕ → ℕ

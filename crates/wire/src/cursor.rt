@@ -1,7 +1,8 @@
 //! A place in bytes, and the fields that are read there. After a fault the place is of no use.
 ghost use Rattle.std.specs.Prelude.{◌≡◌, ◌≢◌, ◌↔◌, ◌==◌, ◌≤◌, [], length, drop, IsTrue, Option, Some, None, Err};
 ghost use Rattle.wire.specs.Spelling.{AreBytes};
-ghost use Rattle.wire.specs.Places.{Reads, Holds, start, moved, number_at, raw_at, text_at, kind_at};
+ghost use Rattle.wire.specs.Places.{Reads, Holds, start, moved, number_at, raw_at, text_at, kind_at, byte_of_at};
+ghost use Rattle.wire.specs.Places.{u32_at};
 
 use crate::{Bytes, DataFault, DataKind, Id, take_varint, take_varstring};
 use std::alloc::Global;
@@ -132,7 +133,7 @@ impl<'a> Cursor<'a> {
         self.raw::<32>()
     }
 
-    /// A string of at most so many bytes, behind its length.
+    /// A string of at most so many bytes, after its length.
     #[tactic(auto, unfolding(crate::specs::Places::text_at))]
     pub fn text(&mut self, alloc: Global, most: u64) -> Result<Bytes, DataFault>
         ensures { Reads result self.new (text_at most self.old) }
@@ -147,7 +148,7 @@ impl<'a> Cursor<'a> {
         }
     }
 
-    // The bytes behind a length, as a place of their own.
+    // The bytes after a length, as a place of their own.
     #[tactic(auto, unfolding(crate::specs::Places::text_at))]
     pub(crate) fn held(&mut self, most: u64) -> Result<Cursor<'a>, DataFault>
         ensures { Holds result self.new (text_at most self.old) }
@@ -179,6 +180,31 @@ impl<'a> Cursor<'a> {
         }
         self.pass(1);
         Ok(kind)
+    }
+
+    /// A byte that is one of these.
+    #[tactic(auto, unfolding(crate::specs::Places::byte_of_at))]
+    pub fn byte_of(&mut self, allowed: &[u8]) -> Result<u8, DataFault>
+        ensures read { Reads result self.new (byte_of_at allowed.now self.old) }
+        ensures no_memory { result ≢ Err DataFault.NoMemory }
+    {
+        let Some(byte) = self.rest.first() else {
+            return Err(self.fault(DataKind::Short));
+        };
+        let byte = *byte;
+        if !allowed.contains(&byte) {
+            return Err(self.fault(DataKind::Kind));
+        }
+        self.pass(1);
+        Ok(byte)
+    }
+
+    /// A number in four bytes, the most significant first.
+    pub fn u32_be(&mut self) -> Result<u32, DataFault>
+        ensures read { Reads result self.new (u32_at self.old) }
+        ensures no_memory { result ≢ Err DataFault.NoMemory }
+    {
+        Ok(u32::from_be_bytes(self.raw::<4>()?))
     }
 }
 

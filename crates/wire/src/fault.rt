@@ -1,3 +1,4 @@
+//! Why bytes are no spelling and no record.
 ghost use Rattle.std.specs.Prelude.{◌≡◌, Some};
 ghost use Rattle.wire.specs.declared.fault.DataFault.TheVariants.{NoMemory};
 ghost use Rattle.wire.specs.Kinds.{kind_name};
@@ -22,7 +23,7 @@ pub enum WireFault {
 pub enum DataFault {
     /// The first fault of the bytes, and the place of its first byte, counted from 0.
     At { at: u64, kind: DataKind },
-    /// Memory was wanted and not found.
+    /// Out of memory.
     NoMemory,
 }
 

@@ -1,4 +1,4 @@
-//! Files of records, each behind its length, to the end of the bytes.
+//! Files of records, each after its length, to the end of the bytes.
 ghost use Rattle.std.specs.Prelude.{◌≡◌, ◌<◌, ◌^◌, ℕ, Ok, Err, IfOk};
 ghost use Rattle.wire.specs.declared.files.FramesFault.TheVariants.{NoMemory};
 ghost use Rattle.wire.specs.Files.{FileFault, FramesReadAs, FrameLaws, FileGives};
@@ -15,7 +15,7 @@ pub enum FramesFault {
     /// The first fault of the file: the number of its record and the byte of the file at which it stands, both counted
     /// from 0. A record whose length passes the rest of the file is short at the first byte of its length.
     At { index: u64, at: u64, kind: DataKind },
-    /// Memory was wanted and not found.
+    /// Out of memory.
     NoMemory,
 }
 
@@ -27,7 +27,7 @@ impl From<NoMemory> for FramesFault {
     }
 }
 
-/// The records of a file, each of at most so many bytes behind its length. An empty file has none.
+/// The records of a file, each of at most so many bytes after its length. An empty file has none.
 pub fn read_frames<T: Record>(
     alloc: Global,
     bytes: &[u8],
@@ -41,7 +41,7 @@ pub fn read_frames<T: Record>(
         → FramesReadAs most T.fits T.spelling T.faults bytes.now (Ok xs)
         → FileGives result (Ok xs) }
 
-    // What is told is the first fault, and the first fault is told, unless memory runs out.
+    // What is reported is the first fault, and the first fault is reported, unless memory runs out.
     ensures fault { (f : FileFault)
         → result ≡ Err (FramesFault.At f.index f.at f.kind)
         → FramesReadAs most T.fits T.spelling T.faults bytes.now (Err f) }

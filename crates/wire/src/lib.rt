@@ -3,25 +3,26 @@
 #![tactic(auto)]
 
 mod cursor;
+mod decimals;
 mod fault;
 mod files;
 mod laws;
 mod listed;
-mod memory;
 mod numbers;
 mod record;
 mod strings;
 mod writer;
 
 pub use cursor::Cursor;
+pub use decimals::decimal_within;
 pub use fault::{DataFault, DataKind, WireFault};
 pub use files::{FramesFault, file_readings, read_frames};
 pub use laws::{layout_readings, spellings};
 pub use listed::{Args, Bytes, Listed, Twin};
-pub use memory::NoMemory;
-pub use numbers::{put_varint, take_varint};
+pub use numbers::{MAX_NUMBER, put_varint, take_varint};
 pub use record::{Record, decode, encode, encode_frame, put, put_frame, record_readings};
-pub use strings::{put_varstring, take_varstring};
+pub use std::alloc::AllocError as NoMemory;
+pub use strings::{copy_at, put_varstring, put_word, take_varstring};
 pub use writer::Writer;
 
 /// The name of an entry or an asset: 32 raw bytes.

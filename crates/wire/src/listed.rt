@@ -1,3 +1,4 @@
+//! Values in order, as one list that contracts see; bytes and arguments are such lists.
 ghost use Rattle.std.specs.Prelude.{◌≡◌, ◌↔◌, ◌≤◌, ◌+◌, [], ◌∷◌, ◌++◌, take, drop, length, IsTrue, OnOk, OnErr, IfOk};
 
 use crate::NoMemory;
@@ -88,7 +89,7 @@ impl<T: Drop> Listed<T> {
         Ok(())
     }
 
-    /// Adds a value at the end, and drops it where memory is wanted.
+    /// Adds a value at the end, and drops it where memory runs out.
     pub fn push(&mut self, item: T) -> Result<(), NoMemory>
         ensures ok { OnOk result (self.new ≡ self.old ++ item ∷ []) }
         ensures err { OnErr result (self.new ≡ self.old) }
@@ -140,7 +141,7 @@ impl Listed<u8> {
         Ok(())
     }
 
-    // Brings all that stands behind so many bytes, those from this place on, in front of them.
+    // Brings all that stands after so many bytes, those from this place on, in front of them.
     pub(crate) fn turn(&mut self, from: usize, len: usize)
         requires { from + len ≤ length self.old }
         ensures { self.new

@@ -1,9 +1,13 @@
+//! Numbers as varints.
 ghost use Rattle.std.specs.Prelude.{◌≡◌, ◌↔◌, ◌^◌, ◌<◌, ◌≤◌, ◌++◌, ℕ, List, length, take, drop, IfOk, OnOk, OnErr};
 ghost use Rattle.std.specs.Prelude.{IsErrOf, MatchResult};
 ghost use Rattle.wire.specs.Spelling.{limit, varint};
 ghost use Rattle.wire.specs.Reading.{groups_at, varint_at, IsTooBig, IsNotShortest, IsShort};
 
 use crate::{Bytes, NoMemory, WireFault};
+
+/// The greatest number that is spelled: 2^63 - 1.
+pub const MAX_NUMBER: u64 = (1 << 63) - 1;
 
 /// Appends the spelling of a number. After a refusal `out` is as it was.
 pub fn put_varint(out: &mut Bytes, n: u64) -> Result<(), NoMemory>

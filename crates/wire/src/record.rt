@@ -2,7 +2,7 @@
 ghost use Rattle.std.specs.Prelude.{◌≡◌, ◌≤◌, ◌++◌, ◌-◌, ℕ, List, length, Ok, Err, OnOk, OnErr, IfOk};
 ghost use Rattle.wire.specs.Spelling.{varstring};
 ghost use Rattle.wire.specs.Places.{Place, Fault, Reading, Reads, Gives, start, passes_room, item_at, items_at};
-ghost use Rattle.wire.specs.Places.{many_at, whole_at, frame_at};
+ghost use Rattle.wire.specs.Places.{many_at, whole_at, frame_at, when_at};
 ghost use Rattle.wire.specs.FirstFault.{Faults, WholeFault};
 ghost use Rattle.wire.specs.Readers.{IsReader, IsWholeReader};
 ghost use Rattle.wire.specs.LayoutLaws.{SpellingLaws};
@@ -53,7 +53,7 @@ pub fn decode<T: Record>(alloc: Global, bytes: &[u8]) -> Result<T, DataFault>
     // What is spelled so is read, unless memory runs out.
     ensures only { (x : _) → T.fits x → bytes.now ≡ T.spelling x → Gives result (Ok x) }
 
-    // What is told is the first fault, and the first fault is told, unless memory runs out.
+    // What is reported is the first fault, and the first fault is reported, unless memory runs out.
     ensures fault { (f : Fault)
         → result ≡ Err (DataFault.At f.at f.kind)
         → WholeFault T.fits T.spelling T.faults bytes.now f.at f.kind }
@@ -88,7 +88,7 @@ pub fn encode<T: Record>(alloc: Global, value: &T) -> Result<Vec<u8>, NoMemory>
     Ok(out.end())
 }
 
-/// The spelling of a record behind its length.
+/// The spelling of a record after its length.
 pub fn encode_frame<T: Record>(alloc: Global, value: &T) -> Result<Vec<u8>, NoMemory>
     requires { T.fits value.now }
     ensures { IfOk result (λ bytes. bytes.items ≡ varstring (T.spelling value.now)) }
@@ -108,7 +108,7 @@ pub fn put<T: Record>(alloc: Global, out: &mut Bytes, value: &T) -> Result<(), N
     out.extend_from_slice(held.as_slice())
 }
 
-/// Appends a record behind its length. After a refusal `out` is as it was.
+/// Appends a record after its length. After a refusal `out` is as it was.
 pub fn put_frame<T: Record>(alloc: Global, out: &mut Bytes, value: &T) -> Result<(), NoMemory>
     requires { T.fits value.now }
     ensures ok { OnOk result (out.new ≡ out.old ++ varstring (T.spelling value.now)) }
@@ -120,7 +120,7 @@ pub fn put_frame<T: Record>(alloc: Global, out: &mut Bytes, value: &T) -> Result
 
 const MAX_STRING_LEN: u64 = 65_536;
 
-/// A string of at most 65,536 bytes, behind its length.
+/// A string of at most 65,536 bytes, after its length.
 impl Record for Bytes {
     ghost use Rattle.wire.specs.Spelling.{varstring};
     ghost use Rattle.wire.specs.Places.{text_at};
@@ -161,12 +161,23 @@ impl<'a> Cursor<'a> {
         self.items(alloc, count, room)
     }
 
-    /// A length of at most this value, and one record, which takes so many bytes. A byte behind it is its fault.
+    /// A length of at most this value, and one record, which takes so many bytes. A byte after it is its fault.
     pub fn frame<T: Record>(&mut self, alloc: Global, most: u64) -> Result<T, DataFault>
         ensures { Reads result self.new (frame_at most T.reading self.old) }
     {
         let held = self.held(most)?;
         all_of(alloc, held)
+    }
+
+    /// A record, where it stands there at all.
+    pub fn when<T: Record>(&mut self, alloc: Global, there: bool) -> Result<Option<T>, DataFault>
+        ensures { Reads result self.new (when_at there T.reading self.old) }
+    {
+        if there {
+            Ok(Some(T::read(alloc, self)?))
+        } else {
+            Ok(None)
+        }
     }
 
     // So many records.

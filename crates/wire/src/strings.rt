@@ -1,5 +1,6 @@
-ghost use Rattle.std.specs.Prelude.{◌≡◌, ◌↔◌, ◌^◌, ◌<◌, ◌≤◌, ◌++◌, ◌⊎◌, ℕ, List, length, take, drop, IfOk, IsOkAnd};
-ghost use Rattle.std.specs.Prelude.{OnOk, OnErr, IsErrOf, MatchResult};
+//! Strings after their lengths, words after a blank, and bytes at a place of a text.
+ghost use Rattle.std.specs.Prelude.{◌≡◌, ◌↔◌, ◌^◌, ◌<◌, ◌≤◌, ◌+◌, ◌++◌, ◌∷◌, ◌⊎◌, ℕ, List, length, take, drop};
+ghost use Rattle.std.specs.Prelude.{IfOk, IsOkAnd, OnOk, OnErr, IsErrOf, MatchResult};
 ghost use Rattle.wire.specs.Spelling.{varstring};
 ghost use Rattle.wire.specs.Reading.{varstring_at, IsTooBigString, IsNotShortest, IsShortString};
 
@@ -18,6 +19,14 @@ pub fn put_varstring(out: &mut Bytes, s: &[u8]) -> Result<(), NoMemory>
         return Err(NoMemory);
     }
     Ok(())
+}
+
+/// Appends a blank and a word. After a refusal the blank alone may have been appended.
+pub fn put_word(out: &mut Bytes, word: &[u8]) -> Result<(), NoMemory>
+    ensures { OnOk result (out.new ≡ out.old ++ (32 ∷ word.now)) }
+{
+    out.push(b' ')?;
+    out.extend_from_slice(word)
 }
 
 /// The string of at most so many bytes at the front of the bytes, and how many of them spell it. Its length is tested
@@ -58,4 +67,16 @@ fn string_of(b: &[u8], most: u64) -> Result<(&[u8], u64), WireFault>
         return Err(WireFault::Short);
     }
     Ok((&rest[..len as usize], taken + len))
+}
+
+/// Copies bytes to a place of a text, and gives the place after them.
+pub fn copy_at(text: &mut [u8], at: usize, bytes: &[u8]) -> usize
+    requires { at + length bytes.now ≤ length text.old }
+    ensures end { result ≡ at + length bytes.now }
+    ensures prefix { take result text.new ≡ take at text.old ++ bytes.now }
+    ensures len { length text.new ≡ length text.old }
+{
+    let end = at + bytes.len();
+    text[at..end].copy_from_slice(bytes);
+    end
 }

@@ -1,8 +1,10 @@
 //! Bytes that are written one field after the other. After a refusal the writer is of no use: what was written is
 //! dropped with it.
-ghost use Rattle.std.specs.Prelude.{◌≡◌, ◌<◌, ◌^◌, ◌++◌, [], ◌∷◌, length, IfOk, OnOk};
+ghost use Rattle.std.specs.Prelude.{◌≡◌, ◌<◌, ◌^◌, ◌++◌, [], ◌∷◌, length, IfOk, IfSome, OnOk};
 ghost use Rattle.std.specs.List.{flat_map, AllByRecursion};
+ghost use Rattle.std.specs.Int.{w32, to_be_bytes};
 ghost use Rattle.wire.specs.Spelling.{varint, varstring};
+ghost use Rattle.wire.specs.Layout.{when_spelling};
 
 use crate::{Bytes, NoMemory, Record, put_varint, put_varstring};
 use std::alloc::Global;
@@ -71,7 +73,7 @@ impl Writer {
         self.bytes.extend_from_slice(bytes)
     }
 
-    /// A string, behind its length.
+    /// A string, after its length.
     pub fn text(&mut self, text: &[u8]) -> Result<(), NoMemory>
         ensures { OnOk result (self.new ≡ self.old ++ varstring text.now) }
     {
@@ -83,6 +85,31 @@ impl Writer {
         ensures { OnOk result (self.new ≡ self.old ++ kind ∷ []) }
     {
         self.bytes.push(kind)
+    }
+
+    /// One byte.
+    pub fn byte(&mut self, byte: u8) -> Result<(), NoMemory>
+        ensures { OnOk result (self.new ≡ self.old ++ byte ∷ []) }
+    {
+        self.bytes.push(byte)
+    }
+
+    /// A number in four bytes, the most significant first.
+    pub fn u32_be(&mut self, n: u32) -> Result<(), NoMemory>
+        ensures { OnOk result (self.new ≡ self.old ++ to_be_bytes w32 n) }
+    {
+        self.bytes.extend_from_slice(&n.to_be_bytes())
+    }
+
+    /// A record where there is one, and else no bytes.
+    pub fn when<T: Record>(&mut self, value: &Option<T>) -> Result<(), NoMemory>
+        requires { IfSome value.now T.fits }
+        ensures { OnOk result (self.new ≡ self.old ++ when_spelling T.spelling value.now) }
+    {
+        match value {
+            Some(value) => value.write(self),
+            None => Ok(()),
+        }
     }
 
     /// How many records there are, and the records.
@@ -99,7 +126,7 @@ impl Writer {
         Ok(())
     }
 
-    /// A record behind its length.
+    /// A record after its length.
     pub fn frame<T: Record>(&mut self, value: &T) -> Result<(), NoMemory>
         requires { T.fits value.now }
         ensures { OnOk result (self.new ≡ self.old ++ varstring (T.spelling value.now)) }

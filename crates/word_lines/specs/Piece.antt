@@ -18,7 +18,7 @@ word_of (Hex id) = encode_lower id.now
 word_of (Kind kind) = kind_name kind
 word_of (Why failure) = failure_name failure
 
--- a word behind a space, or nothing
+-- a word after a space, or nothing
 abbrev pub text_of : Piece → List ℕ
 text_of Nothing = []
 text_of piece = 32 ∷ word_of piece
@@ -28,6 +28,6 @@ abbrev pub joined : List Piece → List ℕ
 joined [] = []
 joined (piece ∷ pieces) = text_of piece ++ joined pieces
 
--- behind a head, and ended
+-- after a head, and ended
 abbrev pub text_of_line : List ℕ → List Piece → List ℕ
 text_of_line head pieces = head ++ (joined pieces ++ newline)

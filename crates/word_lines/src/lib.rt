@@ -5,4 +5,4 @@ mod lines;
 mod words;
 
 pub use lines::{Piece, line};
-pub use words::{decimal, decimal_within, hex_word};
+pub use words::hex_word;

@@ -1,3 +1,4 @@
+//! Lines put together of words.
 ghost use Rattle.std.specs.Prelude.{◌≡◌, ◌++◌, IfOk, OnOk, string_bytes};
 ghost use Rattle.word_lines.specs.Piece.{word_of, text_of, joined, text_of_line};
 
@@ -26,7 +27,7 @@ pub enum Piece<'a> {
     Why(Failure),
 }
 
-/// The line of a head and the words behind it, with a space before each, and its newline. Its room is taken once, and
+/// The line of a head and the words after it, with a space before each, and its newline. Its room is taken once, and
 /// a line of at most 192 bytes never grows.
 pub fn line(alloc: Global, head: &str, words: &[Piece]) -> Result<String, NoMemory>
     ensures { IfOk result (λ line. string_bytes line ≡ text_of_line head.now words.now) }
@@ -47,7 +48,7 @@ fn add_all(alloc: Global, line: &mut String, words: &[Piece]) -> Result<(), Allo
     Ok(())
 }
 
-// Adds a word behind a space.
+// Adds a word after a space.
 fn add(alloc: Global, line: &mut String, word: Piece) -> Result<(), AllocError>
     ensures { OnOk result (string_bytes line.new ≡ string_bytes line.old ++ text_of word.entry) }
 {

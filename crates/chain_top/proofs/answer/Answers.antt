@@ -6,13 +6,13 @@ use Rattle.command_words.specs.Seen.{seen, seen_command}
 use Rattle.chain_top.proofs.Calling.{concludes-command, concludes-usage, concludes-none, called}
 use Rattle.chain_top.proofs.answer.Goals as goal
 
-pub returns-in-Ok-Some-clause-place : goal.returns-in-Ok-Some-clause-place
-returns-in-Ok-Some-clause-place g c =
+pub returns-in-Ok-Some-clause-refs : goal.returns-in-Ok-Some-clause-refs
+returns-in-Ok-Some-clause-refs g c =
     let hash = g.H.IdHash.hash_of c.args.hash.now in
     let check = g.C.SigCheck.good_of c.args.sigs.now in
     let words = map (string_bytes {Z = Global}) c.args.words.now in
     let is = ap seen_command (sym c.in-Ok-Some.field-0-is) ∙ c.in-Ok-Some.ensures.reads in
-    (concludes-command c.known.ensures hash check words [] (g.O.Outside.io c.args.out.now) (g.O.Outside.io c.obey.new.out) (g.O.Outside.io c.close.new.out) c.close.result (seen c.in-Ok-Some.command) (stop_of c.obey.result) is (g.met.O.Outside.contents_are_bytes c.args.out.now) c.obey.ensures c.close.ensures).ended.place
+    (concludes-command c.known.ensures hash check words [] (g.O.Outside.io c.args.out.now) (g.O.Outside.io c.obey.new.out) (g.O.Outside.io c.close.new.out) c.close.result (seen c.in-Ok-Some.command) (stop_of c.obey.result) is (g.met.O.Outside.contents_are_bytes c.args.out.now) c.obey.ensures c.close.ensures).ended.refs
 
 pub returns-in-Ok-Some-clause-call : goal.returns-in-Ok-Some-clause-call
 returns-in-Ok-Some-clause-call g c =

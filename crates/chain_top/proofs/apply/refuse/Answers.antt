@@ -1,5 +1,5 @@
-use Rattle.replies.specs.Fronts.{none_begun}
+use Rattle.replies.specs.Recipes.{none_passed}
 use Rattle.chain_top.proofs.apply.refuse.Goals as goal
 
-pub returns-in-Err : goal.returns-in-Err
-returns-in-Err g c = none_begun _ _
+pub returns-in_err-line : goal.returns-in_err-line
+returns-in_err-line g c = none_passed _ _ _ c.from_residual.ensures.1

@@ -3,12 +3,14 @@ use Rattle.std.proofs.lemmas.Grind.{common_steps}
 use Rattle.std.specs.List.{concat}
 use Rattle.wire.specs.Spelling.{varint}
 use Rattle.entry_ids.specs.Ids.{result_id, results_of}
-use Rattle.entry_ids.proofs.Elements.{is_output, next_counted, concat_more}
+use Rattle.wire.specs.Lists.{got}
+use Rattle.data_model.specs.Members.{output_within}
+use Rattle.entry_ids.proofs.Elements.{next_counted, concat_more}
 use Rattle.entry_ids.proofs.tx.put_results.Goals as goal
 
 pub ids_of_result-requires-clause-output : goal.ids_of_result-requires-clause-output
 ids_of_result-requires-clause-output g c =
-    is_output c.args.tx.now c.loop-position.position c.index-outputs-position.result c.requires.tx (record { there = rw c.as_slice-outputs.ensures at c.loop-position-test.true; is = rw c.as_slice-outputs.ensures at c.index-outputs-position.is })
+    output_within c.args.tx.now c.loop-position.position c.index-outputs-position.result c.requires.tx (got _ _ _ (record { there = rw c.as_slice-outputs.ensures at c.loop-position-test.true; is = rw c.as_slice-outputs.ensures at c.index-outputs-position.is }))
 
 pub loop-position-preserved : goal.loop-position-preserved
 loop-position-preserved g c =

@@ -1,11 +1,13 @@
 use Rattle.std.proofs.Common.{◌∙◌, List, ℕ, Some, sym, ap}
 use Rattle.entry_ids.specs.Ids.{mux_id, result_id}
-use Rattle.entry_ids.proofs.Elements.{is_output, counted_at}
+use Rattle.wire.specs.Lists.{got}
+use Rattle.data_model.specs.Members.{output_within}
+use Rattle.entry_ids.proofs.Elements.{counted_at}
 use Rattle.entry_ids.proofs.tx.result_id.Goals as goal
 
 pub ids_of_result-requires-clause-output : goal.ids_of_result-requires-clause-output
 ids_of_result-requires-clause-output g c =
-    is_output c.args.tx.now c.args.k c.index-as_slice-k.result c.requires.tx (record { there = c.requires.there; is = rw c.as_slice.ensures at c.index-as_slice-k.is })
+    output_within c.args.tx.now c.args.k c.index-as_slice-k.result c.requires.tx (got _ _ _ (record { there = c.requires.there; is = rw c.as_slice.ensures at c.index-as_slice-k.is }))
 
 pub returns : goal.returns
 returns g c =

@@ -3,7 +3,7 @@ use Rattle.filter_syntax.specs.By.{before_next}
 use Rattle.filter_syntax.proofs.NameLists.{AreWords}
 use Rattle.filter_syntax.proofs.by.split_names.Given as goal
 
--- the text up to here is words with a comma behind each
+-- the text up to here is words with a comma after each
 abbrev pub invariant-loop-names : goal.invariant-loop-names
 invariant-loop-names l = record {
   within : l.at ≤ length l.text;

@@ -11,9 +11,9 @@ returns-then-is_word c =
 pub returns-in-Some : goal.returns-in-Some
 returns-in-Some c =
     number_found c.args.text.now c.in-Some.n c.run_len-len.result c.run_len-len.ensures.is c.run_len-len.ensures.within
-    (sym c.is_word.ensures ∙ c.if-is_word.false) (sym c.number.ensures ∙ c.in-Some.is)
+    (sym c.is_word.ensures ∙ c.if-is_word.false) (sym c.decimal_within.ensures.reads ∙ c.in-Some.is)
 
 pub returns-in-None : goal.returns-in-None
 returns-in-None c =
     run_none c.args.text.now c.run_len-len.result c.run_len-len.ensures.is
-    (sym c.is_word.ensures ∙ c.if-is_word.false) (sym c.number.ensures ∙ c.in-None.is)
+    (sym c.is_word.ensures ∙ c.if-is_word.false) (sym c.decimal_within.ensures.reads ∙ c.in-None.is)

@@ -9,7 +9,7 @@ pub loop-i-init : goal.loop-i-init
 loop-i-init c =
     let front = c.args.id.now ++ u32str c.args.q ++ u16str 0x8080 in
     let f : ℕ → List ℕ = λ i. chain c.args.id.now c.args.q i (get_or c.args.digits.now i 0) (255 - get_or c.args.digits.now i 0) (string_at c.args.signature.now c.args.at i) in
-    rw (joined_none f, append-nil) c.begun-hasher.ensures
+    rw (joined_none f, append-nil) c.prefix_hasher-hasher.ensures
 
 pub loop-i-preserved : goal.loop-i-preserved
 loop-i-preserved c =

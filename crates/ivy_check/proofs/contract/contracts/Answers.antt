@@ -1,4 +1,4 @@
--- The first with a fault is told, with its first.
+-- The first with a fault is reported, with its first.
 use Rattle.std.proofs.Common.{◌∙◌}
 use Rattle.ivy_check.specs.TypeFault.{contract_tests}
 use Rattle.ivy_check.proofs.TestLemmas.{passed, walked_here, walked_on}

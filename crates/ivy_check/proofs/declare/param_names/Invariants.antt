@@ -7,5 +7,5 @@ use Rattle.ivy_check.proofs.declare.param_names.Given as goal
 
 abbrev pub invariant-loop-k : goal.invariant-loop-k
 invariant-loop-k l =
-    first_of (walked (param_name_tests (option_copied l.outside) l.groups) (take l.k l.names) (drop l.k l.names))
-    ≡ first_of (walked (param_name_tests (option_copied l.outside) l.groups) [] l.names)
+    first_of (walked (param_name_tests (option_copied l.enclosing) l.groups) (take l.k l.names) (drop l.k l.names))
+    ≡ first_of (walked (param_name_tests (option_copied l.enclosing) l.groups) [] l.names)

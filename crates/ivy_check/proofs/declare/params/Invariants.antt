@@ -7,5 +7,5 @@ use Rattle.ivy_check.proofs.declare.params.Given as goal
 
 abbrev pub invariant-loop-k : goal.invariant-loop-k
 invariant-loop-k l =
-    first_of (walked (group_tests (option_copied l.outside)) (take l.k l.groups) (drop l.k l.groups))
-    ≡ first_of (walked (group_tests (option_copied l.outside)) [] l.groups)
+    first_of (walked (group_tests (option_copied l.enclosing)) (take l.k l.groups) (drop l.k l.groups))
+    ≡ first_of (walked (group_tests (option_copied l.enclosing)) [] l.groups)

@@ -1,4 +1,4 @@
--- Each line is decided, so a table of them has one answer; where none holds, each test fails.
+-- Each cause is decided, so a table of them has one answer; where none holds, each test fails.
 use Rattle.std.proofs.Common.{None}
 use Rattle.ivy_check.specs.TypeFault.{tests_of}
 use Rattle.ivy_check.proofs.TableLemmas.{one_answer, answer_is}

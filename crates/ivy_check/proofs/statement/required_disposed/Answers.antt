@@ -1,4 +1,4 @@
--- The first required value that is left is told.
+-- The first required value that is left is reported.
 use Rattle.std.proofs.Common.{◌∙◌}
 use Rattle.ivy_syntax.specs.declared.tree.Req.{Req}
 use Rattle.ivy_check.specs.Statements.{left}

@@ -1,4 +1,4 @@
--- The first statement with a fault is told, with its first.
+-- The first statement with a fault is reported, with its first.
 use Rattle.std.proofs.Common.{◌∙◌}
 use Rattle.ivy_check.specs.Statements.{statement_tests}
 use Rattle.ivy_check.specs.Walk.{scope_of}

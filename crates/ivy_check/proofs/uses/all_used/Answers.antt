@@ -1,4 +1,4 @@
--- The first parameter that is not used is told.
+-- The first parameter that is not used is reported.
 use Rattle.std.proofs.Common.{◌∙◌, ap, List}
 use Rattle.std.specs.List.{flat_map}
 use Rattle.ivy_syntax.specs.declared.tree.ClauseTree.{ClauseTree}

@@ -1,4 +1,4 @@
--- The first name that is not used is told.
+-- The first name that is not used is reported.
 use Rattle.std.proofs.Common.{◌∙◌}
 use Rattle.ivy_check.specs.Uses.{word_unused}
 use Rattle.ivy_check.proofs.TestLemmas.{passed, flat_here, flat_on}

@@ -1,12 +1,12 @@
--- The walk over the contracts tells the first line of the table that holds, or that none does.
+-- The walk over the contracts reports the first cause of the table that holds, or that none does.
 use Rattle.std.proofs.Common.{ℕ, None, Some, refl, ap, ◌∙◌}
 use Rattle.ivy_check.specs.TypeFault.{tests_of}
-use Rattle.ivy_check.proofs.TableLemmas.{answers, told_is, no_fault, is_first, is_told}
+use Rattle.ivy_check.proofs.TableLemmas.{answers, reported_is, no_fault, is_first, is_reported}
 use Rattle.ivy_check.proofs.verdict.check.Goals as goal
 
 pub returns-in-Ok-clause-ok : goal.returns-in-Ok-clause-ok
 returns-in-Ok-clause-ok c =
-    (refl, answers (tests_of c.args.source) None (told_is c.args.source _ c.as_slice.ensures None c.in-Ok.ensures))
+    (refl, answers (tests_of c.args.source) None (reported_is c.args.source _ c.as_slice.ensures None c.in-Ok.ensures))
 
 pub returns-in-Ok-clause-fault : goal.returns-in-Ok-clause-fault
 returns-in-Ok-clause-fault c = λ at kind.
@@ -14,8 +14,8 @@ returns-in-Ok-clause-fault c = λ at kind.
 
 pub returns-in-Err-clause-fault : goal.returns-in-Err-clause-fault
 returns-in-Err-clause-fault c = λ at kind.
-    let told = λ (n : ℕ). Some (c.in-Err.fault.at, n) in
-    let h = ap told c.number.ensures ∙ c.in-Err.ensures in (
+    let reported = λ (n : ℕ). Some (c.in-Err.fault.at, n) in
+    let h = ap reported c.number.ensures ∙ c.in-Err.ensures in (
       (λ e. is_first c.args.source _ c.as_slice.ensures _ _ h at kind e),
-      (λ first. is_told c.args.source _ c.as_slice.ensures _ _ h at kind first),
+      (λ first. is_reported c.args.source _ c.as_slice.ensures _ _ h at kind first),
     )

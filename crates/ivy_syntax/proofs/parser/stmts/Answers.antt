@@ -10,18 +10,18 @@ loop-keyword-init c =
 
 pub returns-in_err-item : goal.returns-in_err-item
 returns-in_err-item c =
-    turn_passes c.loop-keyword.invariant c.args.text.now c.in_err-item.field-0.0 c.from_residual-in_err-item.result
+    turn_passes c.loop-keyword.invariant c.in_err-item.field-0.0 c.from_residual-in_err-item.result
     c.in-Some.ensures c.in_err-item.ensures c.from_residual-in_err-item.ensures.1
 
 pub loop-keyword-smaller : goal.loop-keyword-smaller
 loop-keyword-smaller c =
-    turn_fewer c.args.text.now c.loop-keyword.rest.now c.in_ok-item.left_over.now c.in-Some.ensures
-    (stmt_shortens c.args.depth (placed c.args.text.now c.in-Some.keyword) c.in-Some.ensures.goes) c.in_ok-item.ensures
+    turn_fewer c.loop-keyword.rest.now c.in_ok-item.left_over.now c.in-Some.ensures
+    (stmt_shortens c.args.depth (placed c.in-Some.keyword) c.in-Some.ensures.goes) c.in_ok-item.ensures
 
 pub loop-keyword-preserved : goal.loop-keyword-preserved
 loop-keyword-preserved c =
     turn_next c.loop-keyword.invariant c.in-Some.ensures
-    (stmt_shortens c.args.depth (placed c.args.text.now c.in-Some.keyword) c.in-Some.ensures.goes) c.in_ok-item.ensures
+    (stmt_shortens c.args.depth (placed c.in-Some.keyword) c.in-Some.ensures.goes) c.in_ok-item.ensures
     c.in_ok-push-2.ensures.ok
 
 pub returns : goal.returns

@@ -1,4 +1,4 @@
-use Rattle.ivy_syntax.specs.Grammar.{Or}
+use Rattle.ivy_syntax.specs.declared.level.Level.TheVariants.{Or}
 use Rattle.ivy_syntax.specs.Shown.{tokens_at}
 use Rattle.ivy_syntax.proofs.PrintedParts.{next_separated}
 use Rattle.ivy_syntax.proofs.printer.+expressions.Goals as goal

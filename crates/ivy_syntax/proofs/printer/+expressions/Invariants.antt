@@ -1,5 +1,5 @@
 use Rattle.std.proofs.Common.{◌≡◌, ◌++◌, map, take}
-use Rattle.ivy_syntax.specs.Grammar.{Or}
+use Rattle.ivy_syntax.specs.declared.level.Level.TheVariants.{Or}
 use Rattle.ivy_syntax.specs.Shown.{separated, tokens_at}
 use Rattle.ivy_syntax.specs.Spaced.{spaced}
 use Rattle.ivy_syntax.proofs.printer.+expressions.Given as goal

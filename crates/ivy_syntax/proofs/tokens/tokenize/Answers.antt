@@ -1,15 +1,65 @@
-use Rattle.std.proofs.Common.{sym, subst, map}
-use Rattle.std.specs.List.{AllByRecursion}
+use Rattle.std.proofs.Common.{◌∙◌, ap, sym, subst, length, arith, ◌++◌, ◌∷◌, [], ◌+◌, drop}
+use Rattle.std.proofs.lemmas.List.{take_rest, length-drop, map-append}
+use Rattle.ivy_syntax.specs.Lexeme.{placed, tokens}
 use Rattle.ivy_syntax.specs.Tokens.{AreTokens}
-use Rattle.ivy_syntax.specs.Lexeme.{placed, LiesIn}
-use Rattle.ivy_syntax.proofs.Readings.{cuts_read, cuts_lie}
+use Rattle.ivy_syntax.specs.Cutting.{cuts}
+use Rattle.ivy_syntax.proofs.Readings.{cuts_read}
+use Rattle.ivy_syntax.proofs.Steps.{step_blank, step_token, step_wrong, step_end, none_here, none_further, none_since}
 use Rattle.ivy_syntax.proofs.tokens.tokenize.Goals as goal
+use Rattle.ivy_syntax.proofs.tokens.tokenize.Goals.{then-unclosed, else-unclosed}
 
-pub returns-clause-tokens : goal.returns-clause-tokens
-returns-clause-tokens c =
-    subst (λ ls. AreTokens 0 c.args.text.now (map (placed c.args.text.now) ls)) (sym c.in_ok-lexemes.ensures)
+pub front-requires-clause-unclosed : goal.front-requires-clause-unclosed
+front-requires-clause-unclosed c =
+    λ t. none_here c.args.text.now c.loop-at.at (c.loop-at.invariant.unclosed t)
+
+pub loop-at-preserved-in-Blank : goal.loop-at-preserved-in-Blank
+loop-at-preserved-in-Blank c = record {
+  whole = step_blank c.args.text.now c.loop-at.at (tokens c.loop-at.lexemes.items) c.loop-at.invariant.whole
+      c.in-Blank.len c.in-Blank.ensures.value c.in-Blank.ensures.within;
+  within = omega (
+    arith,
+    c.in-Blank.ensures.within,
+    ap length (take_rest c.args.text.now c.loop-at.at),
+    length-drop c.loop-at.at c.args.text.now,
+  );
+  unclosed = λ t. none_further c.args.text.now c.loop-at.at c.in-Blank.len (c.loop-at.invariant.unclosed t);
+}
+
+pub loop-at-preserved : goal.loop-at-preserved
+loop-at-preserved c = record {
+  whole = ap (λ ts. ts ++ cuts (c.loop-at.at + c.in-Token.len) (drop (c.loop-at.at + c.in-Token.len) c.args.text.now))
+      (ap tokens c.in_ok-push-in-Token.ensures.items ∙ map-append placed c.loop-at.lexemes.items (_ ∷ []))
+      ∙ step_token c.args.text.now c.loop-at.at (tokens c.loop-at.lexemes.items) c.loop-at.invariant.whole
+      c.in-Token.kind c.in-Token.len c.in-Token.ensures.value c.in-Token.ensures.within;
+  within = omega (
+    arith,
+    c.in-Token.ensures.within,
+    ap length (take_rest c.args.text.now c.loop-at.at),
+    length-drop c.loop-at.at c.args.text.now,
+  );
+  unclosed = λ t. elim c.if-unclosed.branch [
+    | then-unclosed w ↦ none_further c.args.text.now c.loop-at.at c.in-Token.len
+        (c.loop-at.invariant.unclosed w.if-unclosed.true)
+    | else-unclosed w ↦ none_since c.args.text.now c.loop-at.at c.in-Token.len c.in-Token.kind
+        c.in-Token.ensures.value c.in-Token.ensures.within
+        (sym w.begins_block-unclosed.ensures ∙ sym w.unclosed-is ∙ t)
+  ];
+}
+
+pub returns-in-Wrong : goal.returns-in-Wrong
+returns-in-Wrong c =
+    subst (AreTokens 0 c.args.text.now)
+    (sym (ap tokens c.in_ok-push-in-Wrong.ensures.items ∙ map-append placed c.loop-at.lexemes.items (_ ∷ [])
+    ∙ ap (λ t. tokens c.loop-at.lexemes.items ++ (t ∷ [])) c.point.ensures.token
+    ∙ step_wrong c.args.text.now c.loop-at.at (tokens c.loop-at.lexemes.items) c.loop-at.invariant.whole
+    c.in-Wrong.ensures.value c.loop-at-test.true))
     (cuts_read c.args.text.now)
 
-pub returns-clause-places : goal.returns-clause-places
-returns-clause-places c =
-    subst (λ ls. AllByRecursion (LiesIn c.args.text.now) ls) (sym c.in_ok-lexemes.ensures) (cuts_lie c.args.text.now)
+pub returns : goal.returns
+returns c =
+    subst (AreTokens 0 c.args.text.now)
+    (sym (ap tokens c.in_ok-push.ensures.items ∙ map-append placed c.loop-at.lexemes.items (_ ∷ [])
+    ∙ ap (λ t. tokens c.loop-at.lexemes.items ++ (t ∷ [])) c.point-2.ensures.token
+    ∙ step_end c.args.text.now c.loop-at.at (tokens c.loop-at.lexemes.items) c.loop-at.invariant.whole
+    c.loop-at-test.false))
+    (cuts_read c.args.text.now)

@@ -1,5 +1,5 @@
 use Rattle.std.proofs.Common.{true, false, refl}
-use Rattle.ledger_core.specs.Unspent.{is_among}
+use Rattle.wire.specs.Strings.{is_among}
 use Rattle.ledger_core.proofs.Left.{left_output}
 use Rattle.ledger_core.proofs.shown.holds_left.Goals as goal
 

@@ -7,7 +7,7 @@ use Rattle.ledger_core.proofs.Made.{StandsAt, all_from, next_of_all, made_here, 
 use Rattle.ledger_core.proofs.unfinished.add_made.Goals as goal
 use Rattle.ledger_core.proofs.unfinished.add_made.Goals.{in-Some+in_ok-push, in_default}
 
--- where what is made at this place is added behind what there was
+-- where what is made at this place is added after what there was
 one_more : {X : Type 0} (before start front here now next : List X) → before ≡ start ++ front → next ≡ front ++ here → now ≡ before ++ here → now ≡ start ++ next
 one_more {X} before start front here now next e f g =
     g ∙ ap (λ (xs : List X). xs ++ here) e ∙ append_assoc start front here ∙ ap (λ (xs : List X). start ++ xs) (sym f)

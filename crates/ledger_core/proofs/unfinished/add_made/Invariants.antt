@@ -1,5 +1,5 @@
 use Rattle.std.proofs.Common.{◌≡◌, ◌++◌, take}
-use Rattle.entry_ids.specs.Entry.{Hash}
+use Rattle.keyed.specs.Functions.{Hash}
 use Rattle.entry_ids.specs.Ids.{AreIds, mux_id}
 use Rattle.ledger_core.specs.Unspent.{made_at}
 use Rattle.ledger_core.proofs.Made.{all_from}

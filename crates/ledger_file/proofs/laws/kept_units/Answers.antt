@@ -1,8 +1,8 @@
 use Rattle.std.proofs.Common.{ℕ, List, Ok}
 use Rattle.data_model.specs.declared.block.Block.{Block}
-use Rattle.vm_run.specs.Row.{Check}
+use Rattle.keyed.specs.Functions.{Check}
 use Rattle.ledger_core.specs.Chain.{Chain}
-use Rattle.ledger_core.specs.Refusal.{Hash}
+use Rattle.keyed.specs.Functions.{Hash}
 use Rattle.ledger_file.specs.Loading.{LoadsAs, chain}
 use Rattle.ledger_file.proofs.laws.kept_units.Goals as goal
 

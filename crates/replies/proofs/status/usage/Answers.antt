@@ -2,4 +2,4 @@ use Rattle.std.proofs.Common.{[], refl}
 use Rattle.replies.proofs.status.usage.Goals as goal
 
 pub returns : goal.returns
-returns g c = c.told.ensures [] (g.O.Outside.io c.args.out.now) refl refl
+returns g c = c.print_last.ensures [] (g.O.Outside.io c.args.out.now) refl refl

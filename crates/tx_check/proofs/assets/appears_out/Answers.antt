@@ -1,7 +1,6 @@
 use Rattle.std.proofs.Common.{◌≡◌, ◌∙◌, sym, refl}
 use Rattle.tx_check.specs.Table.{asset_out}
-use Rattle.tx_check.proofs.Decisions.{same_bytes, other_bytes}
-use Rattle.tx_check.specs.FirstPlaces.{failed}
+use Rattle.wire.specs.Decisions.{same_bytes, other_bytes, failed}
 use Rattle.tx_check.proofs.Everywhere.{not_more, not_in_map, in_map}
 use Rattle.tx_check.proofs.assets.appears_out.Goals as goal
 

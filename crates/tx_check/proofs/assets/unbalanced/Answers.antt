@@ -11,12 +11,12 @@ use Rattle.tx_check.proofs.assets.unbalanced.Goals as goal
 
 joined : (tx : Tx) → HoldsNot (AtFirst (λ k asset. IsUnbalanced tx asset) (map asset_in tx.inputs)) → (answer : Option TxRefusal) → Found (AtFirst (λ k asset. IsUnbalanced tx asset) (map asset_out tx.outputs)) answer → Found (HasUnbalanced tx) answer
 joined tx none None others = nowhere_in_both (IsUnbalanced tx) (map asset_in tx.inputs) (map asset_out tx.outputs) none others
-joined tx none (Some told) first = first_of_right (IsUnbalanced tx) (map asset_in tx.inputs) (map asset_out tx.outputs) told none first
+joined tx none (Some reported) first = first_of_right (IsUnbalanced tx) (map asset_in tx.inputs) (map asset_out tx.outputs) reported none first
 
 pub returns-in-Some : goal.returns-in-Some
 returns-in-Some c =
     let tx = c.args.tx.now in
-    first_of_left (IsUnbalanced tx) (map asset_in tx.inputs) (map asset_out tx.outputs) c.in-Some.line c.in-Some.ensures
+    first_of_left (IsUnbalanced tx) (map asset_in tx.inputs) (map asset_out tx.outputs) c.in-Some.cause c.in-Some.ensures
 
 pub returns : goal.returns
 returns c = joined c.args.tx.now c.in_default.ensures c.unbalanced_out.result c.unbalanced_out.ensures

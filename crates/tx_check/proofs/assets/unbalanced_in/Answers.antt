@@ -23,7 +23,7 @@ loop-k-preserved c =
 pub returns-in-Some : goal.returns-in-Some
 returns-in-Some c =
     let tx = c.args.tx.now in
-    found_at (λ n asset. IsUnbalanced tx asset) (map asset_in tx.inputs) c.loop-k.k c.asset_in-asset.result.now c.in-Some.line c.loop-k.invariant
+    found_at (λ n asset. IsUnbalanced tx asset) (map asset_in tx.inputs) c.loop-k.k c.asset_in-asset.result.now c.in-Some.cause c.loop-k.invariant
     (map_along asset_in c.as_slice-inputs.ensures (record { there = c.loop-k-test.true; is = c.index-inputs-k.is }) c.asset_in-asset.ensures)
     c.in-Some.ensures
 

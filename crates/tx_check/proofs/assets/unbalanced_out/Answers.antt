@@ -34,7 +34,7 @@ loop-k-preserved c =
 pub returns-in-Some : goal.returns-in-Some
 returns-in-Some c =
     let tx = c.args.tx.now in
-    found_at (λ n asset. IsUnbalanced tx asset) (map asset_out tx.outputs) c.loop-k.k c.asset_out-asset.result.now c.in-Some.line c.loop-k.invariant
+    found_at (λ n asset. IsUnbalanced tx asset) (map asset_out tx.outputs) c.loop-k.k c.asset_out-asset.result.now c.in-Some.cause c.loop-k.invariant
     (map_along asset_out c.as_slice-outputs.ensures (record { there = c.loop-k-test.true; is = c.index-outputs-k.is }) c.asset_out-asset.ensures)
     c.in-Some.ensures
 

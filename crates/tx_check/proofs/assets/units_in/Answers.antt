@@ -1,7 +1,7 @@
 use Rattle.std.proofs.Common.{◌≡◌, ◌+◌, ◌<◌, ◌^◌, length, ℕ, List, sym, ap, ◌∙◌, arith}
 use Rattle.std.specs.Prelude.{bytes_eq}
 use Rattle.tx_check.specs.Parts.{asset_in, amount_in}
-use Rattle.tx_check.specs.FirstPlaces.{StandsAt}
+use Rattle.wire.specs.Lists.{StandsAt}
 use Rattle.tx_check.proofs.Sums.{sum_in_none, sum_in_more, sum_in_all, counts, counts_not, room, added, kept}
 use Rattle.tx_check.proofs.assets.units_in.Goals.{then-eq, else-eq}
 use Rattle.tx_check.proofs.assets.units_in.Goals as goal

@@ -1,7 +1,7 @@
 use Rattle.std.proofs.Common.{◌≡◌, ◌+◌, ◌<◌, ◌^◌, length, ℕ, List, sym, ap, ◌∙◌, arith}
 use Rattle.std.specs.Prelude.{bytes_eq}
 use Rattle.tx_check.specs.Table.{asset_out, amount_out}
-use Rattle.tx_check.specs.FirstPlaces.{StandsAt}
+use Rattle.wire.specs.Lists.{StandsAt}
 use Rattle.tx_check.proofs.Sums.{sum_out_none, sum_out_more, sum_out_all, counts, counts_not, room, added, kept}
 use Rattle.tx_check.proofs.assets.units_out.Goals.{then-eq, else-eq}
 use Rattle.tx_check.proofs.assets.units_out.Goals as goal

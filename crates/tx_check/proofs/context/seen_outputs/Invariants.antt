@@ -1,6 +1,6 @@
 use Rattle.std.proofs.Common.{◌≡◌, take}
 use Rattle.std.specs.Prelude.{map}
-use Rattle.entry_ids.specs.Entry.{Hash}
+use Rattle.keyed.specs.Functions.{Hash}
 use Rattle.entry_ids.specs.Ids.{AreIds, result_data}
 use Rattle.tx_check.specs.Contexts.{seen}
 use Rattle.tx_check.proofs.context.seen_outputs.Given as goal

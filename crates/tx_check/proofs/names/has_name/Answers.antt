@@ -1,6 +1,7 @@
 use Rattle.std.proofs.Common.{◌≡◌, refl}
 use Rattle.entry_ids.specs.declared.input.Named.{Named}
-use Rattle.tx_check.specs.FirstPlaces.{failed, read_at}
+use Rattle.wire.specs.Decisions.{failed}
+use Rattle.wire.specs.Lists.{read_at}
 use Rattle.tx_check.proofs.Everywhere.{not_more, not_contained, contained}
 use Rattle.tx_check.proofs.names.has_name.Goals as goal
 

@@ -1,6 +1,8 @@
 use Rattle.std.proofs.Common.{refl}
 use Rattle.entry_ids.specs.declared.input.Named.{Named}
-use Rattle.tx_check.specs.FirstPlaces.{failed, read_at, none_more, found_here}
+use Rattle.tx_check.specs.FirstPlaces.{none_more, found_here}
+use Rattle.wire.specs.Decisions.{failed}
+use Rattle.wire.specs.Lists.{read_at}
 use Rattle.tx_check.proofs.shown.live_nonce.Goals as goal
 
 pub returns-then-uses_live : goal.returns-then-uses_live
@@ -13,4 +15,4 @@ pub loop-k-preserved : goal.loop-k-preserved
 loop-k-preserved g c =
     none_more _ _ c.loop-k.k _ c.loop-k.invariant
     (read_at c.args.named.now c.loop-k.k Named.Nothing c.loop-k-test.true)
-    (λ told h. failed (c.if-uses_live.ensures.1 h.0))
+    (λ reported h. failed (c.if-uses_live.ensures.1 h.0))

@@ -4,11 +4,11 @@ use Rattle.data_model.specs.declared.input.Input.{Input}
 use Rattle.data_model.specs.declared.input.Spend.{Spend}
 use Rattle.data_model.specs.declared.tx.Tx.{Tx}
 use Rattle.entry_ids.specs.declared.input.Named.{Named}
-use Rattle.entry_ids.specs.Entry.{Hash}
+use Rattle.keyed.specs.Functions.{Hash}
 use Rattle.entry_ids.specs.Ids.{names, output_id}
 use Rattle.tx_check.specs.View.{Holds}
 use Rattle.tx_check.specs.Table.{SpendsNone}
-use Rattle.tx_check.specs.FirstPlaces.{failed}
+use Rattle.wire.specs.Decisions.{failed}
 use Rattle.tx_check.proofs.shown.spends_none.Goals as goal
 
 name_of_spend : (hash : Hash) (tx : Tx) (spend : Spend) → names hash tx (Input.Spend spend) ≡ Named.Output (output_id hash spend.from)

@@ -1,5 +1,5 @@
 use Rattle.std.proofs.Common.{◌≡◌}
-use Rattle.entry_ids.specs.Entry.{Hash}
+use Rattle.keyed.specs.Functions.{Hash}
 use Rattle.entry_ids.specs.Ids.{result_ids}
 use Rattle.tx_check.specs.Table.{TakesId}
 use Rattle.tx_check.specs.FirstPlaces.{NoneBelow}

@@ -1,6 +1,6 @@
 use Rattle.std.proofs.Common.{length, slice_index, arith}
 use Rattle.std.proofs.lemmas.List.FromFn.{fill_by_all}
-use Rattle.vm_ops.specs.Bits.{bit_operation}
+use Rattle.vm_ops.specs.Operators.{bit_operation}
 use Rattle.vm_ops.proofs.bits.fill.Goals as goal
 
 pub returns : goal.returns

@@ -1,5 +1,5 @@
 use Rattle.std.proofs.Common.{◌≡◌, slice_index, ℕ, ◌<◌}
-use Rattle.vm_ops.specs.Bits.{bit_operation}
+use Rattle.vm_ops.specs.Operators.{bit_operation}
 use Rattle.vm_ops.proofs.bits.fill.Given as goal
 
 -- the bytes so far are made

@@ -1,6 +1,6 @@
 use Rattle.std.proofs.Common.{◌≤◌, ℕ, [], ◌∷◌, ◌+◌, length, min, max, arith}
 use Rattle.std.proofs.lemmas.Bool.Decides.{nat_tests}
-use Rattle.vm_ops.specs.Line.{line_at-all}
+use Rattle.vm_ops.specs.Results.{entry_at-all}
 use Rattle.vm_ops.proofs.laws.rows_cost.Goals as goal
 
 pub returns-clause-numbers : goal.returns-clause-numbers
@@ -8,7 +8,7 @@ returns-clause-numbers c = λ code. grind (arith, nat_tests)
 
 pub returns-clause-bytes : goal.returns-clause-bytes
 returns-clause-bytes c = λ code a b item.
-    line_at-all (λ (base : ℕ). 1 ≤ base) (4 + length item) (
+    entry_at-all (λ (base : ℕ). 1 ≤ base) (4 + length item) (
     (0x83, 1 + length a)
     ∷ (0x84, 1 + min (length a) (length b))
     ∷ (0x85, 1 + max (length a) (length b))

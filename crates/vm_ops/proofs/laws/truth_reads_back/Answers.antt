@@ -1,6 +1,6 @@
 use Rattle.std.proofs.Common.{◌≡◌, Bool, true, false, refl}
 use Rattle.vm_num.specs.Item.{is_true}
-use Rattle.vm_ops.specs.Line.{truth_item}
+use Rattle.vm_ops.specs.Results.{truth_item}
 use Rattle.vm_ops.proofs.laws.truth_reads_back.Goals as goal
 
 reads : (holds : Bool) → is_true (truth_item holds) ≡ holds

@@ -11,8 +11,8 @@ run-requires-clause-small g c =
     let piled = ap held_cost (c.in_ok-pile.ensures ∙ ap (λ items. on_data (reverse items)) c.as_slice.ensures) in
     omega (arith, piled, cost-reverse c.args.args.now)
 
-pub returns-in-Ok : goal.returns-in-Ok
-returns-in-Ok g c =
+pub returns : goal.returns
+returns g c =
     let on_data : List Item → Stacks = λ items. record { items = items; alt = [] } in
     let piled = c.in_ok-pile.ensures ∙ ap (λ items. on_data (reverse items)) c.as_slice.ensures in
-    from_run c.args.ctx.now (g.C.SigCheck.good_of c.args.sigs.now) c.args.program.now (reverse c.args.args.now) c.args.left c.in_ok-pile.field-0 c.run.new.machine c.in-Ok.end c.verdict_on.result piled c.in-Ok.ensures c.verdict_on.ensures
+    from_run c.args.ctx.now (g.C.SigCheck.good_of c.args.sigs.now) c.args.program.now (reverse c.args.args.now) c.args.left c.in_ok-pile.field-0 c.run.new.machine c.in_ok-end.end c.verdict_on.result piled c.in_ok-end.ensures c.verdict_on.ensures

@@ -1,7 +1,7 @@
 use Rattle.std.proofs.Common.{◌-◌, ◌≤◌, length}
 use Rattle.std.specs.List.{AllByRecursion}
 use Rattle.vote_book.specs.Quorum.{IsKey}
-use Rattle.vote_book.specs.Behind.{AreFirst}
+use Rattle.vote_book.specs.Positions.{AreFirst}
 use Rattle.vote_book.proofs.reading.read_keys.Given as goal
 
 abbrev pub decreases-loop-alloc : goal.decreases-loop-alloc

@@ -3,7 +3,7 @@ use Rattle.std.specs.List.{flat_map, AllByRecursion}
 use Rattle.wire.specs.Layout.{FrameFits, frame_spelling}
 use Rattle.wire.proofs.files.all_frames.Given as goal
 
--- the records so far, and the bytes behind them
+-- the records so far, and the bytes after them
 abbrev pub invariant-loop-cursor : goal.invariant-loop-cursor
 invariant-loop-cursor g l = record {
   within : AllByRecursion (FrameFits l.most g.T.Record.fits g.T.Record.spelling) l.items;

@@ -7,10 +7,10 @@ use Rattle.data_model.proofs.TransactionRecords.{behind_kind}
 use Rattle.data_model.proofs.tx_records.InputRecord.write.Goals as goal
 
 pub write-requires : goal.write-requires
-write-requires c = (subst IsInput c.in-Issue.is c.requires).1
+write-requires c = subst IsInput c.in-Issue.is c.requires
 
 pub write-requires-in-Spend : goal.write-requires-in-Spend
-write-requires-in-Spend c = (subst IsInput c.in-Spend.is c.requires).1
+write-requires-in-Spend c = subst IsInput c.in-Spend.is c.requires
 
 pub returns-in_ok-kind-in-Issue : goal.returns-in_ok-kind-in-Issue
 returns-in_ok-kind-in-Issue c =

@@ -7,10 +7,10 @@ use Rattle.data_model.proofs.TransactionRecords.{behind_kind}
 use Rattle.data_model.proofs.tx_records.OutputRecord.write.Goals as goal
 
 pub write-requires : goal.write-requires
-write-requires c = (subst IsOutput c.in-Control.is c.requires).1
+write-requires c = subst IsOutput c.in-Control.is c.requires
 
 pub write-requires-in-Retire : goal.write-requires-in-Retire
-write-requires-in-Retire c = (subst IsOutput c.in-Retire.is c.requires).1
+write-requires-in-Retire c = subst IsOutput c.in-Retire.is c.requires
 
 pub returns-in_ok-kind-in-Control : goal.returns-in_ok-kind-in-Control
 returns-in_ok-kind-in-Control c =

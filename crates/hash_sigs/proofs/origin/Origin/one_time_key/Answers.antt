@@ -12,7 +12,7 @@ loop-i-init c =
     let f : ℕ → List ℕ = λ i. own_chain c.args.self.now c.args.q i 255 in
     let begin : c.id.result.now ++ u32str c.args.q ++ u16str 0x8080 ≡ front ++ joined f 0 =
     ap (λ x. x ++ u32str c.args.q ++ u16str 0x8080) c.id.ensures.value ∙ sym (ap (λ x. front ++ x) (joined_none f) ∙ append-nil front) in
-    subst (λ (m : List ℕ). Holds256 c.begun-hasher.result m) begin c.begun-hasher.ensures
+    subst (λ (m : List ℕ). Holds256 c.prefix_hasher-hasher.result m) begin c.prefix_hasher-hasher.ensures
 
 pub loop-i-preserved : goal.loop-i-preserved
 loop-i-preserved c =

@@ -1,15 +1,15 @@
--- The table of what is checked has no line that holds.
+-- The table of what is checked has no cause that holds.
 use Rattle.std.proofs.Common.{None, subst}
 use Rattle.wire.specs.Tables.{First}
 use Rattle.ivy_syntax.specs.declared.tree.Source.{Source}
 use Rattle.ivy_syntax.specs.Texts.{IsOfSomeText}
-use Rattle.ivy_check.specs.TypeFault.{tests_of, lines_of}
+use Rattle.ivy_check.specs.TypeFault.{tests_of, causes_of}
 use Rattle.ivy_check.proofs.TableLemmas.{answers}
 use Rattle.ivy_check.proofs.verdict.Checked.source.Goals as goal
 
 pub returns-clause-none : goal.returns-clause-none
 returns-clause-none c =
-    subst (λ (s : Source). First (lines_of s) None) c.self.view_is
+    subst (λ (s : Source). First (causes_of s) None) c.self.view_is
     (answers (tests_of c.self.inside.source) None c.self.invariant.no_fault)
 
 pub returns-clause-text : goal.returns-clause-text

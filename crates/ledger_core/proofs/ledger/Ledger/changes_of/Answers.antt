@@ -23,16 +23,16 @@ check_with_ids-checked-requires-clause-ids g c =
     (record { there = c.loop-k-test.true; is = c.index-txs-k.is })
     (record { there = there; is = c.index-ids-k.is })
 
-pub returns-in_err-told_of-clause-refused : goal.returns-in_err-told_of-clause-refused
-returns-in_err-told_of-clause-refused g c =
+pub returns-in_err-refused_at-clause-refused : goal.returns-in_err-refused_at-clause-refused
+returns-in_err-refused_at-clause-refused g c =
     let hash = g.H.IdHash.hash_of c.args.hash.now in
     let check = g.C.SigCheck.good_of c.args.sigs.now in
     let k = c.loop-k.k in
     let shows = shown_after hash check c.args.self.now (take k c.args.txs.now) c.loop-k.changes c.requires.stands c.loop-k.invariant.changes in
     let refused = first_refused hash check c.args.self.now.blocks c.args.time c.args.txs.now k c.index-txs-k.result _ shows
-    c.check_with_ids-checked.result c.told_of.result _ c.loop-k.invariant.none
+    c.check_with_ids-checked.result c.refused_at.result _ c.loop-k.invariant.none
     (record { there = c.loop-k-test.true; is = c.index-txs-k.is })
-    c.check_with_ids-checked.ensures.refused c.told_of.ensures c.in_err-told_of.was in
+    c.check_with_ids-checked.ensures.refused c.refused_at.ensures c.in_err-refused_at.was in
     let p = err_from_is_err_and c.from_residual.result c.from_residual.ensures.1 in
     rw (p.1, p.2) refused
 
@@ -61,9 +61,9 @@ loop-k-preserved g c =
       changes = changes_next hash txs k one c.loop-k.changes c.add.new.self (record { there = c.loop-k-test.true; is = c.index-txs-k.is }) c.loop-k.invariant.changes
           (record { made = c.in_ok-add.ensures.made hash are; spent = c.in_ok-add.ensures.spent hash are; used_are = c.in_ok-add.ensures.used hash are });
       none = next_valid hash check c.args.self.now.blocks c.args.time txs k one _ shows (c.one_refusal.ensures hash check)
-          c.check_with_ids-checked.result c.told_of.result _ c.loop-k.invariant.none
+          c.check_with_ids-checked.result c.refused_at.result _ c.loop-k.invariant.none
           (record { there = c.loop-k-test.true; is = c.index-txs-k.is })
-          c.check_with_ids-checked.ensures.valid c.told_of.ensures c.in_ok-told_of.was;
+          c.check_with_ids-checked.ensures.valid c.refused_at.ensures c.in_ok-refused_at.was;
       many = c.loop-k.invariant.many;
     }
 

@@ -2,7 +2,7 @@ use Rattle.std.proofs.Common.{◌≡◌, ◌++◌, ◌∙◌, List, ℕ, [], sym
 use Rattle.std.proofs.lemmas.Bool.{eqb-true}
 use Rattle.std.proofs.lemmas.List.{nil_from_length}
 use Rattle.merkle.specs.Roots.{set_root}
-use Rattle.ledger_core.specs.Held.{Held}
+use Rattle.ledger_core.specs.LedgerModel.{LedgerModel}
 use Rattle.ledger_core.specs.Blocks.{txs_of}
 use Rattle.ledger_core.specs.Roots.{output_ids}
 use Rattle.ledger_core.specs.Unspent.{left_of, unspent_after}
@@ -17,11 +17,11 @@ returns-then-is_empty g c = λ txs are.
     c.in_ok-add_ids-2.ensures.items
     ∙ ap (λ (ids : List (List ℕ)). ids ++ output_ids (left_of [] c.as_slice-3.result.now))
     (c.in_ok-add_ids.ensures.items ∙ ap (λ (ids : List (List ℕ)). ids ++ output_ids (left_of c.as_slice-2.result.now c.as_slice.result.now)) c.in_ok-ids.ensures.items)
-    ∙ (λ i. output_ids (left_of (c.as_slice-2.ensures.value i) ((c.as_slice.ensures.value ∙ ap (λ (held : Held). held.unspent) c.self.view_is) i)) ++ output_ids (left_of [] (c.as_slice-3.ensures.value i)))
+    ∙ (λ i. output_ids (left_of (c.as_slice-2.ensures.value i) ((c.as_slice.ensures.value ∙ ap (λ (held : LedgerModel). held.unspent) c.self.view_is) i)) ++ output_ids (left_of [] (c.as_slice-3.ensures.value i)))
     ∙ gathered hash before txs c.args.changes.now c.args.self.now.unspent c.requires.unspent are in
     let len = eqb-true _ _ (sym c.is_empty.ensures ∙ c.if-is_empty.true) in
     let none : c.add_ids-2.new.ids.items ≡ [] = nil_from_length _ (omega (arith, c.add_ids-2.new.ids.ok.0, len)) in
-    ap (λ (held : Held). held.empty_root) c.self.view_is ∙ c.requires.root
+    ap (λ (held : LedgerModel). held.empty_root) c.self.view_is ∙ c.requires.root
     ∙ sym (c.set_roots.ensures hash).empty
     ∙ ap (set_root hash) (sym none ∙ all)
 
@@ -33,7 +33,7 @@ returns g c = λ txs are.
     c.in_ok-add_ids-2.ensures.items
     ∙ ap (λ (ids : List (List ℕ)). ids ++ output_ids (left_of [] c.as_slice-3.result.now))
     (c.in_ok-add_ids.ensures.items ∙ ap (λ (ids : List (List ℕ)). ids ++ output_ids (left_of c.as_slice-2.result.now c.as_slice.result.now)) c.in_ok-ids.ensures.items)
-    ∙ (λ i. output_ids (left_of (c.as_slice-2.ensures.value i) ((c.as_slice.ensures.value ∙ ap (λ (held : Held). held.unspent) c.self.view_is) i)) ++ output_ids (left_of [] (c.as_slice-3.ensures.value i)))
+    ∙ (λ i. output_ids (left_of (c.as_slice-2.ensures.value i) ((c.as_slice.ensures.value ∙ ap (λ (held : LedgerModel). held.unspent) c.self.view_is) i)) ++ output_ids (left_of [] (c.as_slice-3.ensures.value i)))
     ∙ gathered hash before txs c.args.changes.now c.args.self.now.unspent c.requires.unspent are in
     let are_ids = c.in_ok-add_ids-2.ensures.ids (c.in_ok-add_ids.ensures.ids (none_are_ids c.in_ok-ids.ids.items c.in_ok-ids.ensures.items)) in
     c.set_root.ensures
