@@ -1,5 +1,5 @@
 //! Calls of vm_run.
-ghost use Rattle.std.specs.Prelude.{◌<◌, ◌^◌, IfOk};
+ghost use Rattle.std.specs.Prelude.{◌<◌, ◌≤◌, ◌^◌, IfOk};
 ghost use Rattle.vm_run.specs.Row.{NumbersFit};
 
 use keyed::NoSigs;
@@ -27,7 +27,7 @@ fn context_at(alloc: Global, time: u64) -> Result<Context, NoMemory>
 // The verdict of a program without arguments, in a block of this time.
 fn verdict_at(alloc: Global, time: u64, program: &[u8], limit: u64) -> Result<Verdict, NoMemory>
     requires time { time < 2 ^ 63 }
-    requires limit { limit < 2 ^ 63 }
+    requires limit { limit ≤ 100000 }
 {
     let context = context_at(alloc, time)?;
     verify(alloc, &context, &NoSigs, program, &Args::new(alloc), limit)
@@ -102,7 +102,7 @@ const IN_A_BLOCK: [(u64, &[u8], u64, Verdict); 24] = [
 ];
 
 fn is_verdict(alloc: Global, time: u64, program: &[u8], limit: u64, wanted: Verdict) -> bool {
-    time <= LAST && limit <= LAST && verdict_at(alloc, time, program, limit) == Ok(wanted)
+    time <= LAST && limit <= 100_000 && verdict_at(alloc, time, program, limit) == Ok(wanted)
 }
 
 #[test]

@@ -1,3 +1,4 @@
+pub mod ContextIds
 pub mod Decisions
 pub mod Everywhere
 pub mod Facts

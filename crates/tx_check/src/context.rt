@@ -4,6 +4,7 @@ ghost use Rattle.data_model.specs.Transaction.{IsTx};
 ghost use Rattle.data_model.specs.declared.input.Input.{Input};
 ghost use Rattle.keyed.specs.Functions.{Hash};
 ghost use Rattle.entry_ids.specs.Ids.{AreIds, input_data, input_id};
+ghost use Rattle.vm_run.specs.Ids.{HasIds};
 ghost use Rattle.vm_run.specs.Row.{NumbersFit};
 ghost use Rattle.tx_check.specs.Parts.{named_output, spent_id};
 ghost use Rattle.tx_check.specs.Contexts.{IsContext, last_time, seen, seen_outputs};
@@ -24,6 +25,7 @@ pub fn context_of<H: IdHash>(alloc: Global, hash: &H, tx: &Tx, k: u64) -> Result
     requires there { k < length tx.now.inputs }
     ensures context { IfOk result (IsContext (H.hash_of hash.now) tx.now k) }
     ensures numbers { IfOk result NumbersFit }
+    ensures ids { IfOk result HasIds }
 {
     let ids = tx_ids(alloc, hash, tx)?;
     let outs = seen_outputs(alloc, tx, &ids)?;

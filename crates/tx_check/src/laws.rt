@@ -1,7 +1,11 @@
 //! Laws of the definitions, each the contract of a function with nothing to do.
-ghost use Rattle.std.specs.Prelude.{◌↔◌, ℕ};
+ghost use Rattle.std.specs.Prelude.{◌↔◌, ℕ, List};
+ghost use Rattle.data_model.specs.Transaction.{IsTx};
 ghost use Rattle.data_model.specs.declared.tx.Tx.{Tx};
 ghost use Rattle.keyed.specs.Functions.{Hash, Check};
+ghost use Rattle.vm_run.specs.Ids.{IsId, HasIds};
+ghost use Rattle.vm_run.specs.declared.context.Context.{Context};
+ghost use Rattle.tx_check.specs.Contexts.{IsContext};
 ghost use Rattle.tx_check.specs.View.{State};
 ghost use Rattle.tx_check.specs.Table.{TxValid};
 ghost use Rattle.tx_check.specs.Valid.{Valid};
@@ -23,3 +27,10 @@ pub fn valid_transactions()
 {
     one_verdict();
 }
+
+/// The ids and hashes of an input's context have 32 bytes, for every hash whose values have. It does nothing when it
+/// runs.
+pub fn context_ids()
+    ensures { (hash : Hash) → ((bytes : List ℕ) → IsId (hash bytes)) → (tx : Tx) (k : ℕ) (context : Context) → IsTx tx
+        → IsContext hash tx k context → HasIds context }
+{}

@@ -7,8 +7,9 @@ use Rattle.std.specs.Prelude.{◌==◌}
 use Rattle.hex.specs.Hex.{IsBytes}
 use Rattle.vm_code.specs.Instruction.{Decoded, decoded, decoded_front, data_at, counted_at, jump_at, little_endian, plain, is_data, is_jump, is_plain}
 use Rattle.vm_code.specs.Text.{bytes_of, field_len, field_value, IsInstruction}
+use Rattle.vm_code.specs.Readings.{is_alone, jump_cases, plain_small}
 use Rattle.vm_code.proofs.Hexes.{is_bytes_nil, is_bytes_cons, is_bytes_tail}
-use Rattle.vm_code.proofs.Shapes.{pushing, jumping, Kind, by_length, counted_1, counted_2, counted_4, jump, alone, Field, field_1, field_2, field_4, is_alone, jump_cases, bytes_by_length, bytes_1, bytes_2, bytes_4, bytes_jump, bytes_alone, plain_small}
+use Rattle.vm_code.proofs.Shapes.{pushing, jumping, Kind, by_length, counted_1, counted_2, counted_4, jump, alone, Field, field_1, field_2, field_4, bytes_by_length, bytes_1, bytes_2, bytes_4, bytes_jump, bytes_alone}
 
 pub is_bytes_append : (a b : List ℕ) → IsBytes a → IsBytes b → IsBytes (a ++ b)
 is_bytes_append [] b first second = second

@@ -8,7 +8,7 @@ use Rattle.std.proofs.lemmas.Bool.{and_parts, not-true}
 use Rattle.vm_code.specs.Instruction.{Decoded, Misread, decoded_front, instruction_at}
 use Rattle.vm_code.specs.Text.{bytes_of, text_of, IsInstruction}
 use Rattle.vm_code.specs.Assembly.{IsAssembly, FirstMisread, FirstBadWord, IsWord, words}
-use Rattle.vm_code.proofs.Longer.{front_begun}
+use Rattle.vm_code.specs.Readings.{front_begun}
 use Rattle.vm_code.proofs.Named.{free}
 use Rattle.vm_code.proofs.WordTexts.{one_instruction, text_some, text_free}
 use Rattle.vm_code.proofs.Listing.{some_joined}

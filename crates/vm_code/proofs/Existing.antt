@@ -12,7 +12,7 @@ use Rattle.vm_code.specs.Assembly.{IsAssembly, FirstMisread, FirstBadWord}
 use Rattle.vm_code.specs.Word.{word_read}
 use Rattle.vm_code.specs.Written.{with_word}
 use Rattle.vm_code.proofs.Hexes.{is_bytes_tail}
-use Rattle.vm_code.proofs.Longer.{within, front_begun}
+use Rattle.vm_code.specs.Readings.{within, front_begun}
 use Rattle.vm_code.proofs.Named.{is_code, code_from, has_name}
 use Rattle.vm_code.proofs.Splits.{split_front}
 use Rattle.vm_code.proofs.Listing.{Reached, at_start, one_more, at_end, stopped, instruction_read}

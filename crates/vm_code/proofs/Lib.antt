@@ -7,7 +7,6 @@ pub mod Existing
 pub mod Front
 pub mod Hexes
 pub mod Listing
-pub mod Longer
 pub mod Named
 pub mod Powers
 pub mod Shapes

@@ -9,7 +9,7 @@ use Rattle.vm_code.specs.Names.{names, name_of, code_of}
 use Rattle.vm_code.specs.Text.{is_counted}
 use Rattle.vm_code.specs.Word.{rest_after_0x}
 use Rattle.wire.specs.Decimal.{is_empty}
-use Rattle.vm_code.proofs.Shapes.{plain_small}
+use Rattle.vm_code.specs.Readings.{plain_small}
 
 -- a text without this byte
 abbrev pub free : ℕ → List ℕ → Bool

@@ -1,14 +1,13 @@
 -- The kinds of instructions, and the bytes of each.
-use Rattle.std.proofs.Common.{◌≡◌, ℕ, ◌+◌, ◌*◌, ◌/◌, ◌%◌, ◌^◌, ◌<◌, ◌≤◌, List, [], ◌∷◌, ◌++◌, length, take, Bool, true, false, refl, ap, subst, inl, inr, ◌⊎◌, arith}
-use Rattle.std.specs.Prelude.{◌==◌, ◌||◌, ◌&&◌, not, nat_le}
+use Rattle.std.proofs.Common.{◌≡◌, ℕ, ◌+◌, ◌*◌, ◌/◌, ◌%◌, ◌^◌, ◌<◌, ◌≤◌, List, [], ◌∷◌, ◌++◌, length, take, true, refl, ap, inl, inr, arith}
 use Rattle.std.specs.Int.{w32, to_le_bytes}
 use Rattle.std.proofs.lemmas.List.{append-nil}
 use Rattle.std.proofs.lemmas.Nat.{le_bytes_4}
-use Rattle.std.proofs.lemmas.Bool.{cases_lt, eqb-true, leb-true, and_parts, agree_below_at, not-true}
 use Rattle.std.proofs.lemmas.Bool.Decides.{nat_tests}
 use Rattle.hex.specs.Hex.{IsBytes}
-use Rattle.vm_code.specs.Instruction.{Decoded, little_endian, plain, is_data, is_jump, is_plain}
+use Rattle.vm_code.specs.Instruction.{Decoded, little_endian, plain, is_jump, is_plain}
 use Rattle.vm_code.specs.Text.{field_len, bytes_of}
+use Rattle.vm_code.specs.Readings.{is_alone, jump_cases}
 use Rattle.vm_code.proofs.Hexes.{is_bytes_nil, is_bytes_cons}
 
 abbrev pub pushing : ℕ → List ℕ → ℕ → Decoded
@@ -94,50 +93,6 @@ read_4 (a ∷ b ∷ c ∷ d ∷ []) len all =
     let sd : d < 256 = all 3 in
     (omega arith, record { len = refl; says = refl; bytes = all; is = ap (take 4) (four a b c d (a + 256 * (b + 256 * (c + 256 * (d + 256 * 0)))) sa sb sc sd (omega arith)) })
 read_4 (a ∷ b ∷ c ∷ d ∷ e ∷ f) len all = absurd (omega arith)
-
--- ---- codes that are alone, and jumps
-
-abbrev alone_test : ℕ → Bool
-alone_test c = not (is_plain c) || (not (is_data c) && (not (c == 0x4c) && (not (c == 0x4d) && (not (c == 0x4e) && (not (is_jump c) && (field_len c == 0))))))
-
-alone_tests : (c : ℕ) → c < 256 → alone_test c ≡ true
-alone_tests c small = agree_below_at alone_test (λ c. true) 256 c refl small
-
-pub plain_small : (c : ℕ) → is_plain c ≡ true → c < 256
-plain_small c is = grind (arith, nat_tests)
-
-pub record Alone (c : ℕ) : Type 0 where
-  pub no_data : is_data c ≡ false
-  pub not_1 : (c == 0x4c) ≡ false
-  pub not_2 : (c == 0x4d) ≡ false
-  pub not_4 : (c == 0x4e) ≡ false
-  pub no_jump : is_jump c ≡ false
-  pub no_field : field_len c ≡ 0
-
-pub is_alone : (c : ℕ) → is_plain c ≡ true → Alone c
-is_alone c is =
-    let all : not true || (not (is_data c) && (not (c == 0x4c) && (not (c == 0x4d) && (not (c == 0x4e) && (not (is_jump c) && (field_len c == 0)))))) ≡ true =
-    subst (λ t. not t || (not (is_data c) && (not (c == 0x4c) && (not (c == 0x4d) && (not (c == 0x4e) && (not (is_jump c) && (field_len c == 0)))))) ≡ true) is (alone_tests c (plain_small c is)) in
-    let a = and_parts (not (is_data c)) _ all in
-    let b = and_parts (not (c == 0x4c)) _ a.1 in
-    let e = and_parts (not (c == 0x4d)) _ b.1 in
-    let f = and_parts (not (c == 0x4e)) _ e.1 in
-    let g = and_parts (not (is_jump c)) _ f.1 in
-    record {
-      no_data = not-true (is_data c) a.0;
-      not_1 = not-true (c == 0x4c) b.0;
-      not_2 = not-true (c == 0x4d) e.0;
-      not_4 = not-true (c == 0x4e) f.0;
-      no_jump = not-true (is_jump c) g.0;
-      no_field = eqb-true _ _ g.1;
-    }
-
-pub jump_cases : (c : ℕ) → is_jump c ≡ true → (c ≡ 0x63) ⊎ (c ≡ 0x64)
-jump_cases c is =
-    let both = and_parts (nat_le 0x63 c) (nat_le c 0x64) is in
-    let low = leb-true 0x63 c both.0 in
-    let high = leb-true c 0x64 both.1 in
-    elim (cases_lt c 100) [ inl below ↦ inl (omega arith) | inr above ↦ inr (omega arith) ]
 
 -- ---- the bytes of each kind
 

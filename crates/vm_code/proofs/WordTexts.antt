@@ -13,11 +13,12 @@ use Rattle.vm_code.specs.Text.{field_len, text_of, is_counted, IsInstruction}
 use Rattle.vm_code.specs.Word.{word_read, parts_read, with_argument, without_argument, named, rest_after_0x, at_colon}
 use Rattle.vm_code.specs.Word.{data_of, counted, hex_read, place_read, is_lower_digit}
 use Rattle.wire.specs.Decimal.{is_empty}
-use Rattle.vm_code.specs.Word as word
+use Rattle.vm_code.specs.Instruction as instructions
 use Rattle.vm_code.proofs.Hexes.{hex_written, hex_back, lower_written}
 use Rattle.wire.specs.Decimal.{digits_written}
 use Rattle.vm_code.proofs.Decimals.{place_written, place_back}
-use Rattle.vm_code.proofs.Shapes.{pushing, jumping, Kind, by_length, counted_1, counted_2, counted_4, jump, alone, jump_cases}
+use Rattle.vm_code.proofs.Shapes.{pushing, jumping, Kind, by_length, counted_1, counted_2, counted_4, jump, alone}
+use Rattle.vm_code.specs.Readings.{jump_cases}
 use Rattle.vm_code.proofs.Splits.{kind_of}
 use Rattle.vm_code.proofs.Again.{is_instruction, is_bytes_pushed}
 use Rattle.vm_code.proofs.Worded.{counted_worded, jump_worded}
@@ -138,7 +139,7 @@ counted_reads c text digits d (Some p) count is hex h =
     let says : text ≡ text_of (pushing c p (field_len c)) = is ∙ (ap (λ l. name_of c ++ (58 ∷ l)) (sym written.0) ∙ (sym (append_assoc (name_of c) (codes ":") (encode_lower p)) ∙ sym (text_counted c (field_len c) p count))) in
     subst (Reads text) e.1 (is_instruction (pushing c p (field_len c)) kind written.1, says)
 
-jump_reads : (c : ℕ) (text digits : List ℕ) (d : Decoded) (o : Option ℕ) → is_jump c ≡ true → text ≡ name_of c ++ (58 ∷ digits) → place_read digits ≡ o → option_map (word.jump c) o ≡ Some d → Reads text d
+jump_reads : (c : ℕ) (text digits : List ℕ) (d : Decoded) (o : Option ℕ) → is_jump c ≡ true → text ≡ name_of c ++ (58 ∷ digits) → place_read digits ≡ o → option_map (instructions.jump c) o ≡ Some d → Reads text d
 jump_reads c text digits d None jumps is place h = cc
 jump_reads c text digits d (Some n) jumps is place h =
     let e : jumping c n ≡ d = cc in

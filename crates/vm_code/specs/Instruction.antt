@@ -41,6 +41,10 @@ is_data code = is_within 0x01 0x4b code
 abbrev pub plain : ℕ → Decoded
 plain code = record { code = code; pushed = []; target = 0; len = 1 }
 
+-- the jump of a code to a place
+abbrev pub jump : ℕ → ℕ → Decoded
+jump code place = record { code = code; pushed = []; target = place; len = 5 }
+
 -- count data bytes after the code and its field of a length
 abbrev pub data_at : ℕ → ℕ → ℕ → List ℕ → Result Decoded Misread
 data_at code field count behind =
@@ -57,7 +61,7 @@ counted_at code field behind =
 abbrev pub jump_at : ℕ → List ℕ → Result Decoded Misread
 jump_at code behind =
     if nat_le 4 (length behind)
-    then Ok (record { code = code; pushed = []; target = little_endian (take 4 behind); len = 5 })
+    then Ok (jump code (little_endian (take 4 behind)))
     else Err Short
 
 -- A code and the bytes after it. PUSHDATA1, PUSHDATA2 and PUSHDATA4 are 4c, 4d and 4e.

@@ -2,6 +2,7 @@ pub mod Assembly
 pub mod Instruction
 pub mod Laws
 pub mod Names
+pub mod Readings
 pub mod Seen
 pub mod Text
 pub mod Word

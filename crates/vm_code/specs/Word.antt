@@ -7,7 +7,7 @@ use Rattle.std.specs.Option.{option_and_then}
 use Rattle.std.specs.Result.{result_ok}
 use Rattle.hex.specs.Hex.{decode_of}
 use Rattle.wire.specs.Decimal.{decimal_within}
-use Rattle.vm_code.specs.Instruction.{Decoded, is_within, is_data, is_jump, is_plain, plain}
+use Rattle.vm_code.specs.Instruction.{Decoded, is_within, is_data, is_jump, is_plain, plain, jump}
 use Rattle.vm_code.specs.Names.{code_of}
 use Rattle.vm_code.specs.Text.{is_counted, field_len}
 
@@ -36,9 +36,6 @@ data_of pushed =
     if is_data (length pushed)
     then Some (record { code = length pushed; pushed = pushed; target = 0; len = 1 + length pushed })
     else None
-
-abbrev pub jump : ℕ → ℕ → Decoded
-jump code place = record { code = code; pushed = []; target = place; len = 5 }
 
 -- a word of a name, a colon and an argument
 abbrev pub with_argument : Option ℕ → List ℕ → Option Decoded

@@ -3,11 +3,11 @@ ghost use Rattle.std.specs.Prelude.{◌≡◌, ◌+◌, ◌<◌, ◌^◌, IfOk, 
 ghost use Rattle.std.specs.List.{list_all};
 ghost use Rattle.std.specs.Option.{option_and_then, option_map};
 ghost use Rattle.std.specs.Char.{is_ascii_digit};
-ghost use Rattle.vm_code.specs.Instruction.{is_plain};
+ghost use Rattle.vm_code.specs.Instruction.{is_plain, jump};
 ghost use Rattle.vm_code.specs.Names.{code_of};
 ghost use Rattle.vm_code.specs.Text.{field_len};
 ghost use Rattle.vm_code.specs.Word.{word_read, with_argument, without_argument, rest_after_0x, named, data_of};
-ghost use Rattle.vm_code.specs.Word.{counted, jump, hex_read, is_lower_digit, place_read};
+ghost use Rattle.vm_code.specs.Word.{counted, hex_read, is_lower_digit, place_read};
 ghost use Rattle.vm_code.specs.Written.{Says};
 
 use crate::codes::{DATA_MAX, DATA_MIN, JUMP, JUMPIF, PUSHDATA1, PUSHDATA2, PUSHDATA4};

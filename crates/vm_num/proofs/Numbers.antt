@@ -1,26 +1,17 @@
--- Numbers spelled as items, and read back.
-use Rattle.std.proofs.Common.{◌≡◌, ◌≢◌, ℕ, zero, suc, ◌+◌, ◌-◌, ◌<◌, ◌≤◌, ◌^◌, List, [], ◌∷◌, ◌++◌, length, get_or, take, replicate, Some, None, ℤ, refl, sym, ap, inl, inr, ◌∙◌, arith, length-append}
-use Rattle.std.proofs.lemmas.List.{take_more, length-replicate}
-use Rattle.std.proofs.lemmas.Nat.{le_bytes_8, from_le_bytes-to_le_bytes_8}
-use Rattle.std.proofs.lemmas.Int.{ints, to_z-of_z, of_z-to_z}
-use Rattle.std.proofs.lemmas.Bool.{lt-leb, le-leb, cases_lt}
+-- The shortest spelling of a number, and how zeros are dropped from its end.
+use Rattle.std.proofs.Common.{◌≡◌, ◌≢◌, ℕ, zero, suc, ◌+◌, ◌-◌, ◌<◌, ◌≤◌, List, [], ◌∷◌, ◌++◌, length, get_or, take}
+use Rattle.std.proofs.Common.{replicate, Some, ℤ, refl, sym, ap, inl, inr, ◌∙◌, arith}
+use Rattle.std.proofs.lemmas.List.{take_more}
+use Rattle.std.proofs.lemmas.Nat.{le_bytes_8}
+use Rattle.std.proofs.lemmas.Int.{of_z-to_z}
+use Rattle.std.proofs.lemmas.Bool.{cases_lt}
 use Rattle.std.proofs.lemmas.Bool.Decides.{nat_tests}
 use Rattle.std.proofs.lemmas.Grind.{common_steps}
 use Rattle.std.specs.Int.{w64, to_le_bytes, from_le_bytes, cast_signed, cast_unsigned}
-use Rattle.std.specs.Int.RustNames.{FitsSigned}
 use Rattle.vm_num.specs.Item.{Item, AreBytes, num, num_bytes, without_high_zeros, onto}
+use Rattle.vm_num.specs.Numbers.{length-without_high_zeros, filled, length-filled, filled-bytes, below_top, num_past, num_is}
 
 -- ---- zeros at the end
-
--- one byte in front makes a list at most one longer
-length-onto : (b : ℕ) (bs : List ℕ) → length (onto b bs) ≤ suc (length bs)
-length-onto b [] = grind (arith, common_steps, nat_tests)
-length-onto b (c ∷ cs) = omega arith
-
--- nothing is added
-pub length-without_high_zeros : (bs : List ℕ) → length (without_high_zeros bs) ≤ length bs
-length-without_high_zeros [] = omega arith
-length-without_high_zeros (b ∷ bs) = omega (arith, length-onto b (without_high_zeros bs), length-without_high_zeros bs)
 
 -- zeros alone are nothing
 without_high_zeros-replicate : (k : ℕ) → without_high_zeros (replicate k 0) ≡ []
@@ -48,71 +39,7 @@ pub without_high_zeros-whole : (bs : List ℕ) (y : ℕ) → y ≢ 0 → without
 without_high_zeros-whole [] y h = onto-nonzero y h
 without_high_zeros-whole (b ∷ bs) y h = ap (onto b) (without_high_zeros-whole bs y h) ∙ onto-end b y bs
 
--- zeros added again give the list back
-onto-refilled : (b : ℕ) (bs cs : List ℕ) (k : ℕ) → ((j : ℕ) → length cs + j ≡ length bs → cs ++ replicate j 0 ≡ bs) → length (onto b cs) + k ≡ suc (length bs) → onto b cs ++ replicate k 0 ≡ b ∷ bs
-onto-refilled zero bs [] zero same e = absurd (omega arith)
-onto-refilled zero bs [] (suc k) same e = ap (λ l. 0 ∷ l) (same k (omega arith))
-onto-refilled (suc b) bs [] k same e =
-    let is : onto (suc b) [] ≡ suc b ∷ [] = onto-nonzero (suc b) (omega arith) in
-    let more : 1 + k ≡ suc (length bs) = rw is at e in
-    rw is (ap (λ l. suc b ∷ l) (same k (omega arith)))
-onto-refilled b bs (c ∷ cs) k same e = ap (λ l. b ∷ l) (same k (omega arith))
-
-pub refilled : (bs : List ℕ) (k : ℕ) → length (without_high_zeros bs) + k ≡ length bs → without_high_zeros bs ++ replicate k 0 ≡ bs
-refilled [] zero e = refl
-refilled [] (suc k) e = absurd (omega arith)
-refilled (b ∷ bs) k e = onto-refilled b bs (without_high_zeros bs) k (refilled bs) e
-
--- ---- what an item is read as
-
--- filled with zeros to 8 bytes
-abbrev filled : Item → List ℕ
-filled b = b ++ replicate (8 - length b) 0
-
-length-filled : (b : Item) → length b ≤ 8 → length (filled b) ≡ 8
-length-filled b h = simp (length-append, length-replicate) (omega arith)
-
-filled-bytes : (b : Item) → AreBytes b → AreBytes (filled b)
-filled-bytes b are i = grind (arith, common_steps, are i)
-
--- more than 8 bytes are no number
-pub num_past : (b : Item) → 8 < length b → num b ≡ None
-unfolding num
-num_past b h = rw (lt-leb (length b) 8 h)
-
--- up to 8 bytes are the number of the filled item
-pub num_is : (b : Item) → length b ≤ 8 → num b ≡ Some (cast_signed w64 (from_le_bytes w64 (filled b)))
-unfolding num
-num_is b h = rw (le-leb (length b) 8 h)
-
 -- ---- the shortest spelling
-
--- a spelling has at most 8 bytes
-pub length-num_bytes : (n : ℤ) → length (num_bytes n) ≤ 8
-unfolding num_bytes
-length-num_bytes n = length-without_high_zeros (to_le_bytes w64 (cast_unsigned w64 n))
-
--- eight bytes without their high zeros, filled again
-filled-trimmed : (bs : List ℕ) → length bs ≡ 8 → filled (without_high_zeros bs) ≡ bs
-filled-trimmed bs h = refilled bs _ (omega (arith, length-without_high_zeros bs))
-
-filled-num_bytes : (n : ℤ) → filled (num_bytes n) ≡ to_le_bytes w64 (cast_unsigned w64 n)
-unfolding num_bytes
-filled-num_bytes n = filled-trimmed (to_le_bytes w64 (cast_unsigned w64 n)) refl
-
--- a spelling is read as its number
-pub num-num_bytes : (n : ℤ) → FitsSigned w64 n → num (num_bytes n) ≡ Some n
-num-num_bytes n fits =
-    let bits = cast_unsigned w64 n in
-    let below : bits < 2 ^ 64 = omega (arith, ints) in
-    num_is (num_bytes n) (length-num_bytes n)
-    ∙ ap (λ l. Some (cast_signed w64 (from_le_bytes w64 l))) (filled-num_bytes n)
-    ∙ ap (λ x. Some (cast_signed w64 x)) (from_le_bytes-to_le_bytes_8 bits below)
-    ∙ ap Some (to_z-of_z w64 n fits)
-
--- eight bytes make a number of 64 bits
-below_top : (bs : List ℕ) → AreBytes bs → from_le_bytes w64 bs < 2 ^ 64
-below_top bs are = omega (arith, are 0, are 1, are 2, are 3, are 4, are 5, are 6, are 7)
 
 -- the spelling of what a short item is read as: the item without its high zeros
 num_bytes-filled : (n : ℤ) (b : Item) → AreBytes b → num b ≡ Some n → length b ≤ 8 → num_bytes n ≡ without_high_zeros (filled b)
@@ -149,6 +76,3 @@ one_less bs n some within zeroed =
 pub none_less : (bs : List ℕ) (n : ℕ) → 0 < n → n ≤ length bs → get_or bs (n - 1) 0 ≢ 0 → without_high_zeros (take n bs) ≡ take n bs
 none_less bs n some within nonzero =
     rw (last_of_front bs n some within) (without_high_zeros-whole (take (n - 1) bs) _ nonzero)
-
--- what holds of every spelling, for the `using` of a crate above
-pub ruleset spellings = (length-num_bytes, num-num_bytes)

@@ -8,6 +8,7 @@ use Rattle.std.proofs.lemmas.Nat.{pow_below, pow_pos}
 use Rattle.std.specs.Int.RustNames.{FitsSigned}
 use Rattle.std.specs.Int.{w64, cast_signed, cast_unsigned, int_shr, int_min}
 use Rattle.vm_num.specs.Item.{exact}
+use Rattle.vm_num.specs.Numbers.{exact-fits}
 use Rattle.vm_num.specs.Operations.{floor_by, product_of, left_shift_of, right_shift_of}
 
 -- two to a count of so many and more
@@ -19,10 +20,6 @@ exact_past n h = grind (arith, nat_tests)
 
 exact_below : (n : ℕ) → 2 ^ 63 ≤ n → exact (negsuc n) ≡ None
 exact_below n h = grind (arith, nat_tests)
-
-exact_fits : (z : ℤ) → FitsSigned w64 z → exact z ≡ Some z
-exact_fits (pos n) h = let m : n < 2 ^ 63 = omega (arith, ints) in grind (arith, nat_tests)
-exact_fits (negsuc n) h = let m : n < 2 ^ 63 = omega (arith, ints) in grind (arith, nat_tests)
 
 -- ---- to the right
 
@@ -50,7 +47,7 @@ shifted a m k h e =
     ap (λ j. Some (cast_signed w64 (cast_unsigned w64 (int_shr a (cast_unsigned w64 j))))) e
     ∙ ap (λ z. Some (cast_signed w64 (cast_unsigned w64 z))) (shr_is a k)
     ∙ ap Some (to_z-of_z w64 _ (floor_fits a (2 ^ k) h))
-    ∙ sym (exact_fits _ (floor_fits a (2 ^ k) h))
+    ∙ sym (exact-fits _ (floor_fits a (2 ^ k) h))
 
 pub right_shift_is : (a count m : ℤ) → FitsSigned w64 a → pos 0 ≤ℤ count → m ≡ int_min count (pos 63) → Some (cast_signed w64 (cast_unsigned w64 (int_shr a (cast_unsigned w64 m)))) ≡ right_shift_of a count
 right_shift_is a (pos k) m h some e =

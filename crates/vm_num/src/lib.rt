@@ -3,6 +3,7 @@
 #![tactic(auto)]
 
 mod failure;
+pub mod laws;
 mod number;
 mod operations;
 mod push;

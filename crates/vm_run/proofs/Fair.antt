@@ -1,4 +1,5 @@
--- What every line of the table keeps: its base cost is at least 1, and it jumps at most to the program's end.
+-- What every line of the table keeps: its base cost is at least 1, and it jumps at most to the program's end; and what
+-- the lines keep that don't jump, and those on the data stack alone.
 use Rattle.std.proofs.Common.{◌≡◌, ℕ, ◌+◌, ◌≤◌, Bool, true, false, cond, List, [], ◌∷◌, length, drop, min, max, leb, ltb, eqb, Option, Some, None, Ok, Err, ℤ, pos, negsuc, refl, sym, ◌∙◌, ap, arith}
 use Rattle.std.specs.Prelude.{bytes_eq, slice_get, ◌&&◌, ◌||◌}
 use Rattle.std.specs.Ordering.{int_eq}
@@ -6,7 +7,7 @@ use Rattle.std.proofs.lemmas.Bool.{cond_both, ltb-false, eqb-true, true≢false}
 use Rattle.std.proofs.lemmas.Bool.Decides.{nat_tests}
 use Rattle.vm_num.specs.Item.{Item, num, num_bytes, is_true}
 use Rattle.vm_num.specs.declared.failure.Failure.TheVariants.{Underflow, BadOpcode, BadJump}
-use Rattle.vm_code.specs.Instruction.{Decoded, is_jump}
+use Rattle.vm_code.specs.Instruction.{Decoded, is_jump, jump}
 use Rattle.vm_ops.specs.Results.{ItemResult, entry_at-all}
 use Rattle.vm_ops.specs.Bytes.{bytes_result, bytes_base}
 use Rattle.vm_ops.specs.Signatures.{message_in}
@@ -16,13 +17,14 @@ use Rattle.vm_run.specs.Effect.{does, always, needs, on_one, on_two, on_three, o
 use Rattle.vm_run.specs.Effect.{on_two_numbers, on_three_numbers, on_size, on_part, counted, by_count, in_block}
 use Rattle.vm_run.specs.Effect.{in_tx, push_row}
 use Rattle.keyed.specs.Functions.{Check}
-use Rattle.vm_run.specs.Moving.{push_rule, jump_row, jump_if_row, verify_row, to_alt_row, from_alt_row, control_table, control_rule, drops, copies, moves, ifdup_row, nip_row, tuck_row, pick_row, roll_row, stack_table, stack_rule}
-use Rattle.vm_run.specs.Making.{string_row, of_string, of_two_strings, of_size, of_part, size_row, equalverify_row, string_table, string_rule, number_row, of_number, of_two_numbers, of_three_numbers, of_numbers, numequalverify_row, number_table, number_rule, call_row, calls, high_table, high_rule}
+use Rattle.vm_run.specs.Moving.{push_rule, jump_row, jump_if_row, verify_row, to_alt_row, from_alt_row, control_rule, drops, copies, moves, ifdup_row, nip_row, tuck_row, pick_row, roll_row, stack_table, stack_rule}
+use Rattle.vm_run.specs.Making.{string_row, of_string, of_two_strings, of_size, of_part, size_row, equalverify_row, string_table, string_rule, number_row, of_number, of_two_numbers, of_three_numbers, of_numbers, numequalverify_row, number_table, number_rule, call_row, calls, high_rule}
 use Rattle.vm_run.specs.Signing.{by_counts, signature_row, signatures_row}
 use Rattle.vm_run.specs.Introspection.{sig_hash_row, on_numbers, on_wanted, output_row, output_at, output_id_row, program_row, context_table, context_rule}
 use Rattle.vm_run.specs.declared.transaction.OutSeen.{OutSeen}
 use Rattle.vm_stack.specs.Stacks.{item_at}
 use Rattle.vm_run.specs.Row.{row}
+use Rattle.vm_run.specs.Lines.{on_data, WorksOnData}
 
 -- ---- base costs
 
@@ -52,17 +54,21 @@ abbrev pub Within : ℕ → Option ℕ → Type 0
 Within size None = Unit {0}
 Within size (Some place) = place ≤ size
 
--- the same of what is asked of the jump
-abbrev pub Fair : (Option ℕ → Type 0) → Row → Type 0
-Fair P (Faults kind) = Unit {0}
-Fair P (Does e) = (1 ≤ e.base) × P e.jump
-Fair P (Calls program asked count) = Unit {0}
+-- the base cost, and what is asked of what is popped and pushed on the alt stack, of the jump, and of a call
+abbrev pub Asked : Type 1
+Asked = ℕ → List Item → Option ℕ → Type 0
 
-module _ (P : Option ℕ → Type 0) (none : P None) where
+abbrev pub Fair : Asked → Type 0 → Row → Type 0
+Fair P C (Faults kind) = Unit {0}
+Fair P C (Does e) = (1 ≤ e.base) × P e.alt_pops e.alt_pushed e.jump
+Fair P C (Calls program asked count) = C
+
+-- of effects on the data stack alone it holds
+module _ (P : Asked) (C : Type 0) (none : P 0 [] None) where
   abbrev FairRule : Rule → Type 0
-  FairRule rule = (items alt : List Item) → Fair P (rule items alt)
+  FairRule rule = (items alt : List Item) → Fair P C (rule items alt)
 
-  either : (b : Bool) (x y : Row) → Fair P x → Fair P y → Fair P (cond b x y)
+  either : (b : Bool) (x y : Row) → Fair P C x → Fair P C y → Fair P C (cond b x y)
   either true x y p q = p
   either false x y p q = q
 
@@ -70,72 +76,77 @@ module _ (P : Option ℕ → Type 0) (none : P None) where
   either_rule true x y p q = p
   either_rule false x y p q = q
 
+  -- of a code's line it holds where it has to
+  needed : (b : Bool) (x y : Rule) → (b ≡ true → FairRule x) → FairRule y → FairRule (cond b x y)
+  needed true x y p q = p refl
+  needed false x y p q = q
+
   -- ---- by what a line needs
 
-  fixed : (rule : Row) → Fair P rule → FairRule (always rule)
+  fixed : (rule : Row) → Fair P C rule → FairRule (always rule)
   fixed rule fair items alt = fair
 
-  needing : (n : ℕ) (rule : List Item → Row) → ((items : List Item) → Fair P (rule items)) → FairRule (needs n rule)
+  needing : (n : ℕ) (rule : List Item → Row) → ((items : List Item) → Fair P C (rule items)) → FairRule (needs n rule)
   needing n rule fair items alt = either (leb n (length items)) (rule items) (Faults Underflow) (fair items) tt
 
-  single : (rule : Item → Row) → ((a : Item) → Fair P (rule a)) → FairRule (on_one rule)
+  single : (rule : Item → Row) → ((a : Item) → Fair P C (rule a)) → FairRule (on_one rule)
   single rule fair [] alt = tt
   single rule fair (a ∷ items) alt = fair a
 
-  double : (rule : Item → Item → Row) → ((a b : Item) → Fair P (rule a b)) → FairRule (on_two rule)
+  double : (rule : Item → Item → Row) → ((a b : Item) → Fair P C (rule a b)) → FairRule (on_two rule)
   double rule fair [] alt = tt
   double rule fair (b ∷ []) alt = tt
   double rule fair (b ∷ a ∷ items) alt = fair a b
 
-  triple : (rule : Item → Item → Item → Row) → ((a b c : Item) → Fair P (rule a b c)) → FairRule (on_three rule)
+  triple : (rule : Item → Item → Item → Row) → ((a b c : Item) → Fair P C (rule a b c)) → FairRule (on_three rule)
   triple rule fair [] alt = tt
   triple rule fair (c ∷ []) alt = tt
   triple rule fair (c ∷ b ∷ []) alt = tt
   triple rule fair (c ∷ b ∷ a ∷ items) alt = fair a b c
 
-  of_alt : (rule : Item → Row) → ((a : Item) → Fair P (rule a)) → FairRule (on_alt rule)
+  of_alt : (rule : Item → Row) → ((a : Item) → Fair P C (rule a)) → FairRule (on_alt rule)
   of_alt rule fair items [] = tt
   of_alt rule fair items (a ∷ alt) = fair a
 
-  numbered : (rule : ℤ → Row) → ((x : ℤ) → Fair P (rule x)) → (x : Option ℤ) → Fair P (with_number rule x)
+  numbered : (rule : ℤ → Row) → ((x : ℤ) → Fair P C (rule x)) → (x : Option ℤ) → Fair P C (with_number rule x)
   numbered rule fair None = tt
   numbered rule fair (Some x) = fair x
 
-  number : (rule : ℤ → Row) → ((x : ℤ) → Fair P (rule x)) → FairRule (on_number rule)
+  number : (rule : ℤ → Row) → ((x : ℤ) → Fair P C (rule x)) → FairRule (on_number rule)
   number rule fair = single (λ a. with_number rule (num a)) (λ a. numbered rule fair (num a))
 
-  two_numbers : (rule : ℤ → ℤ → Row) → ((x y : ℤ) → Fair P (rule x y)) → FairRule (on_two_numbers rule)
+  two_numbers : (rule : ℤ → ℤ → Row) → ((x y : ℤ) → Fair P C (rule x y)) → FairRule (on_two_numbers rule)
   two_numbers rule fair =
       double (λ a b. with_number (λ x. with_number (rule x) (num b)) (num a)) (λ a b.
       numbered (λ x. with_number (rule x) (num b)) (λ x. numbered (rule x) (fair x) (num b)) (num a))
 
-  three_numbers : (rule : ℤ → ℤ → ℤ → Row) → ((x y z : ℤ) → Fair P (rule x y z)) → FairRule (on_three_numbers rule)
+  three_numbers : (rule : ℤ → ℤ → ℤ → Row) → ((x y z : ℤ) → Fair P C (rule x y z)) → FairRule (on_three_numbers rule)
   three_numbers rule fair =
       triple (λ a b c. with_number (λ x. with_number (λ y. with_number (rule x y) (num c)) (num b)) (num a)) (λ a b c.
       numbered (λ x. with_number (λ y. with_number (rule x y) (num c)) (num b)) (λ x.
       numbered (λ y. with_number (rule x y) (num c)) (λ y. numbered (rule x y) (fair x y) (num c)) (num b)) (num a))
 
-  sized : (rule : Item → ℤ → Row) → ((a : Item) (n : ℤ) → Fair P (rule a n)) → FairRule (on_size rule)
+  sized : (rule : Item → ℤ → Row) → ((a : Item) (n : ℤ) → Fair P C (rule a n)) → FairRule (on_size rule)
   sized rule fair = double (λ a n. with_number (rule a) (num n)) (λ a n. numbered (rule a) (fair a) (num n))
 
-  parted : (rule : Item → ℤ → ℤ → Row) → ((a : Item) (m n : ℤ) → Fair P (rule a m n)) → FairRule (on_part rule)
+  parted : (rule : Item → ℤ → ℤ → Row) → ((a : Item) (m n : ℤ) → Fair P C (rule a m n)) → FairRule (on_part rule)
   parted rule fair =
       triple (λ a m n. with_number (λ x. with_number (rule a x) (num n)) (num m)) (λ a m n.
       numbered (λ x. with_number (rule a x) (num n)) (λ x. numbered (rule a x) (fair a x) (num n)) (num m))
 
-  counting : (rule : ℕ → List Item → Row) → ((n : ℕ) (below : List Item) → Fair P (rule n below)) → FairRule (by_count rule)
+  counting : (rule : ℕ → List Item → Row) → ((n : ℕ) (below : List Item) → Fair P C (rule n below)) → FairRule (by_count rule)
   counting rule fair [] alt = tt
   counting rule fair (a ∷ below) alt = numbered (counted (λ n. rule n below)) by_sign (num a)
     where
-      by_sign : (x : ℤ) → Fair P (counted (λ n. rule n below) x)
+      by_sign : (x : ℤ) → Fair P C (counted (λ n. rule n below) x)
       by_sign (pos n) = fair n below
       by_sign (negsuc n) = tt
 
-  positive : (rule : ℕ → Row) → ((n : ℕ) → Fair P (rule n)) → (x : ℤ) → Fair P (counted rule x)
+  positive : (rule : ℕ → Row) → ((n : ℕ) → Fair P C (rule n)) → (x : ℤ) → Fair P C (counted rule x)
   positive rule fair (pos n) = fair n
   positive rule fair (negsuc n) = tt
 
-  two_counts : (rule : ℕ → ℕ → List Item → Row) → ((m n : ℕ) (below : List Item) → Fair P (rule m n below)) → FairRule (by_counts rule)
+  two_counts : (rule : ℕ → ℕ → List Item → Row) → ((m n : ℕ) (below : List Item) → Fair P C (rule m n below)) → FairRule (by_counts rule)
   two_counts rule fair [] alt = tt
   two_counts rule fair (n ∷ []) alt = tt
   two_counts rule fair (n ∷ m ∷ below) alt =
@@ -148,7 +159,7 @@ module _ (P : Option ℕ → Type 0) (none : P None) where
 
   -- ---- lines
 
-  done : (pops : ℕ) (pushed : List Item) (base : ℕ) → 1 ≤ base → Fair P (does pops pushed base)
+  done : (pops : ℕ) (pushed : List Item) (base : ℕ) → 1 ≤ base → Fair P C (does pops pushed base)
   done pops pushed base least = (least, none)
 
   bad : FairRule (always (Faults BadOpcode))
@@ -163,7 +174,7 @@ module _ (P : Option ℕ → Type 0) (none : P None) where
   moving : (under n base : ℕ) → 1 ≤ base → FairRule (moves under n base)
   moving under n base least = needing (under + n) _ (λ items. (least, none))
 
-  stringy : (code pops : ℕ) (a b : Item) (rule : ItemResult) → Fair P (string_row code pops a b rule)
+  stringy : (code pops : ℕ) (a b : Item) (rule : ItemResult) → Fair P C (string_row code pops a b rule)
   stringy code pops a b (Ok item) = (bytes_base-fair code a b item, none)
   stringy code pops a b (Err kind) = tt
 
@@ -179,7 +190,7 @@ module _ (P : Option ℕ → Type 0) (none : P None) where
   part_of : (code : ℕ) → FairRule (of_part code)
   part_of code = parted _ (λ a m n. stringy code 3 a [] (bytes_result code a [] m n))
 
-  numeric : (code pops : ℕ) (rule : ItemResult) → Fair P (number_row code pops rule)
+  numeric : (code pops : ℕ) (rule : ItemResult) → Fair P C (number_row code pops rule)
   numeric code pops (Ok item) = (number_base-fair code, none)
   numeric code pops (Err kind) = tt
 
@@ -191,38 +202,22 @@ module _ (P : Option ℕ → Type 0) (none : P None) where
       (either_rule (eqb i.code 0x4f) _ _ (λ items alt. (one, none))
       (either_rule (eqb i.code 0x50) _ _ bad (λ items alt. (one, none))))
 
-  -- where its jumps are fair
-  control : (i : Decoded) (size : ℕ) → ((pops : ℕ) → Fair P (jump_row pops i.target size)) → FairRule (control_rule i size)
+  -- with what holds of the codes of jumps and of the alt stack, where it is one of them
+  control : (i : Decoded) (size : ℕ)
+      → (eqb 0x63 i.code ≡ true → FairRule (always (jump_row 0 i.target size)))
+      → (eqb 0x64 i.code ≡ true → FairRule (on_one (jump_if_row i.target size)))
+      → (eqb 0x6b i.code ≡ true → FairRule (on_one to_alt_row))
+      → (eqb 0x6c i.code ≡ true → FairRule (on_alt from_alt_row))
+      → FairRule (control_rule i size)
   unfolding control_rule
-  control i size jumps =
-      entry_at-all FairRule (always (Faults BadOpcode)) (control_table i size) i.code bad
-      (fixed (does 0 [] 1) (one, none)
-      & fixed (jump_row 0 i.target size) (jumps 0)
-      & single (jump_if_row i.target size) (λ t. either (is_true t) _ _ (jumps 1) (one, none))
-      & single verify_row (λ t. either (is_true t) _ _ (one, none) tt)
-      & bad
-      & single to_alt_row (λ a. (omega arith, none))
-      & of_alt from_alt_row (λ a. (omega arith, none))
-      & tt)
-
-  -- and where it is none
-  unless : (b : Bool) (x y : Rule) → (b ≡ true → ⊥) → FairRule y → FairRule (cond b x y)
-  unless true x y not fair = absurd (not refl)
-  unless false x y not fair = fair
-
-  no_jump : (code : ℕ) → is_jump code ≡ false → (jump : ℕ) → is_jump jump ≡ true → eqb jump code ≡ true → ⊥
-  no_jump code straight jump jumps is = true≢false (sym jumps ∙ ap is_jump (eqb-true jump code is) ∙ straight)
-
-  straight_control : (i : Decoded) (size : ℕ) → is_jump i.code ≡ false → FairRule (control_rule i size)
-  unfolding control_rule
-  straight_control i size straight =
+  control i size jumps jumps_if to_alt from_alt =
       either_rule (eqb 0x61 i.code) _ _ (fixed (does 0 [] 1) (one, none))
-      (unless (eqb 0x63 i.code) _ _ (no_jump i.code straight 0x63 refl)
-      (unless (eqb 0x64 i.code) _ _ (no_jump i.code straight 0x64 refl)
+      (needed (eqb 0x63 i.code) _ _ jumps
+      (needed (eqb 0x64 i.code) _ _ jumps_if
       (either_rule (eqb 0x69 i.code) _ _ (single verify_row (λ t. either (is_true t) _ _ (one, none) tt))
       (either_rule (eqb 0x6a i.code) _ _ bad
-      (either_rule (eqb 0x6b i.code) _ _ (single to_alt_row (λ a. (omega arith, none)))
-      (either_rule (eqb 0x6c i.code) _ _ (of_alt from_alt_row (λ a. (omega arith, none))) bad))))))
+      (needed (eqb 0x6b i.code) _ _ to_alt
+      (needed (eqb 0x6c i.code) _ _ from_alt bad))))))
 
   stack : (code : ℕ) → FairRule (stack_rule code)
   unfolding stack_rule
@@ -282,17 +277,18 @@ module _ (P : Option ℕ → Type 0) (none : P None) where
       & two_numbers numequalverify_row (λ x y. either (int_eq x y) _ _ (omega arith, none) tt)
       & tt)
 
-  calling : (below : List Item) (count : ℤ) (program : Item) (asked : ℤ) → Fair P (call_row below count program asked)
-  calling below (pos count) program (pos asked) = either (leb count (length below)) _ _ tt tt
-  calling below (pos count) program (negsuc n) = tt
-  calling below (negsuc n) program asked = tt
+  calling : C → (below : List Item) (count : ℤ) (program : Item) (asked : ℤ)
+      → Fair P C (call_row below count program asked)
+  calling call below (pos count) program (pos asked) = either (leb count (length below)) _ _ call tt
+  calling call below (pos count) program (negsuc n) = tt
+  calling call below (negsuc n) program asked = tt
 
-  pub predicate : FairRule calls
-  predicate items alt =
+  pub predicate : C → FairRule calls
+  predicate call items alt =
       triple _ (λ count program asked.
-      numbered _ (λ n. numbered _ (calling (drop 3 items) n program) (num asked)) (num count)) items alt
+      numbered _ (λ n. numbered _ (calling call (drop 3 items) n program) (num asked)) (num count)) items alt
 
-  signatures : (check : Check) (m n : ℕ) (below : List Item) → Fair P (signatures_row check m n below)
+  signatures : (check : Check) (m n : ℕ) (below : List Item) → Fair P C (signatures_row check m n below)
   signatures check m n below =
       either (ltb n m || eqb m 0 && ltb 0 n) _ _ tt
       (either (ltb (length below) (n + 1 + m)) _ _ tt
@@ -306,12 +302,12 @@ module _ (P : Option ℕ → Type 0) (none : P None) where
   tx_item : (f : TxContext → Item) (context : Context) → FairRule (in_tx context (λ t. always (push_row (f t))))
   tx_item f = of_tx (λ t. always (push_row (f t))) (λ t items alt. (one, none))
 
-  program : (context : Context) → Fair P (program_row context)
+  program : (context : Context) → Fair P C (program_row context)
   program Nothing = tt
   program (Tx t) = (one, none)
   program (Block b) = (one, none)
 
-  output : (o : Option OutSeen) (refdata : Item) (amount : ℕ) (asset : Item) (version_1 : Bool) (program : Item) → Fair P (output_row o refdata amount asset version_1 program)
+  output : (o : Option OutSeen) (refdata : Item) (amount : ℕ) (asset : Item) (version_1 : Bool) (program : Item) → Fair P C (output_row o refdata amount asset version_1 program)
   output None refdata amount asset version_1 program = tt
   output (Some o) refdata amount asset version_1 program = (omega arith, none)
 
@@ -321,7 +317,7 @@ module _ (P : Option ℕ → Type 0) (none : P None) where
       numbered _ (λ x. numbered _ (λ y. numbered _ (λ z.
       positive _ (λ p. positive _ (λ n. output (slice_get t.outs p) _ n _ _ _) y) x) (num (item_at 1 items))) (num (item_at 3 items))) (num (item_at 5 items)))
 
-  spent_id : (id : Option Item) → Fair P (output_id_row id)
+  spent_id : (id : Option Item) → Fair P C (output_id_row id)
   spent_id None = tt
   spent_id (Some id) = (one, none)
 
@@ -346,32 +342,128 @@ module _ (P : Option ℕ → Type 0) (none : P None) where
       & of_block (λ b. num_bytes (pos b.time)) context
       & tt)
 
-  others : (context : Context) (check : Check) (code : ℕ) → FairRule (high_rule context check code)
+  others : (context : Context) (check : Check) (code : ℕ) → (eqb 0xc0 code ≡ true → C)
+      → FairRule (high_rule context check code)
   unfolding high_rule
-  others context check code =
-      entry_at-all FairRule (context_rule context code) (high_table check) code (contexts context code)
-      (string 0xa8
-      & triple (signature_row check) (λ s m k. either (eqb (length m) 32) _ _ (omega arith, none) tt)
-      & two_counts (signatures_row check) (signatures check)
-      & predicate
-      & tt)
+  others context check code call =
+      either_rule (eqb 0xa8 code) _ _ (string 0xa8)
+      (either_rule (eqb 0xac code) _ _
+      (triple (signature_row check) (λ s m k. either (eqb (length m) 32) _ _ (omega arith, none) tt))
+      (either_rule (eqb 0xad code) _ _ (two_counts (signatures_row check) (signatures check))
+      (needed (eqb 0xc0 code) _ _ (λ is. predicate (call is)) (contexts context code))))
 
-  lines : (context : Context) (check : Check) (i : Decoded) (size : ℕ) → FairRule (control_rule i size) → (items alt : List Item) → Fair P (row context check i size items alt)
+  lines : (context : Context) (check : Check) (i : Decoded) (size : ℕ) → FairRule (control_rule i size)
+      → (eqb 0xc0 i.code ≡ true → C) → (items alt : List Item) → Fair P C (row context check i size items alt)
   unfolding row
-  lines context check i size controls =
+  lines context check i size controls call =
       either_rule (leb i.code 0x60) _ _ (pushing i)
       (either_rule (leb i.code 0x6c) _ _ controls
       (either_rule (leb i.code 0x7d) _ _ (stack i.code)
       (either_rule (leb i.code 0x89) _ _ (strings i.code)
-      (either_rule (leb 0x8b i.code && leb i.code 0xa5) _ _ (numbers i.code) (others context check i.code)))))
+      (either_rule (leb 0x8b i.code && leb i.code 0xa5) _ _ (numbers i.code) (others context check i.code call)))))
 
-jumping : (size pops place : ℕ) → Fair (Within size) (jump_row pops place size)
+-- ---- every line
+
+abbrev pub Inside : ℕ → Asked
+Inside size alt_pops alt_pushed jump = Within size jump
+
+jumping : (size pops place : ℕ) → Fair (Inside size) (Unit {0}) (jump_row pops place size)
 jumping size pops place =
-    cond_both (ltb size place) (Faults BadJump) _ (Fair (Within size)) (λ past. tt) (λ not_past. (one, ltb-false size place not_past))
+    cond_both (ltb size place) (Faults BadJump) _ (Fair (Inside size) (Unit {0})) (λ past. tt)
+    (λ not_past. (one, ltb-false size place not_past))
 
-pub row-fair : (context : Context) (check : Check) (i : Decoded) (size : ℕ) (items alt : List Item) → Fair (Within size) (row context check i size items alt)
-row-fair context check i size = lines (Within size) tt context check i size (control (Within size) tt i size (λ pops. jumping size pops i.target))
+pub row-fair : (context : Context) (check : Check) (i : Decoded) (size : ℕ) (items alt : List Item)
+    → Fair (Inside size) (Unit {0}) (row context check i size items alt)
+row-fair context check i size =
+    lines (Inside size) (Unit {0}) tt context check i size
+    (control (Inside size) (Unit {0}) tt i size
+    (λ is. fixed (Inside size) (Unit {0}) tt (jump_row 0 i.target size) (jumping size 0 i.target))
+    (λ is. single (Inside size) (Unit {0}) tt (jump_if_row i.target size)
+    (λ t. either (Inside size) (Unit {0}) tt (is_true t) _ _ (jumping size 1 i.target) (one, tt)))
+    (λ is. single (Inside size) (Unit {0}) tt to_alt_row (λ a. (omega arith, tt)))
+    (λ is. of_alt (Inside size) (Unit {0}) tt from_alt_row (λ a. (omega arith, tt))))
+    (λ is. tt)
 
--- an instruction that is no jump goes on after itself
-pub row-straight : (context : Context) (check : Check) (i : Decoded) (size : ℕ) → is_jump i.code ≡ false → (items alt : List Item) → Fair (λ jump. jump ≡ None) (row context check i size items alt)
-row-straight context check i size straight = lines (λ jump. jump ≡ None) refl context check i size (straight_control (λ jump. jump ≡ None) refl i size straight)
+-- ---- the line of an instruction that is no jump
+
+no_jump : (code : ℕ) → is_jump code ≡ false → (jump : ℕ) → is_jump jump ≡ true → eqb jump code ≡ true → ⊥
+no_jump code straight jump jumps is = true≢false (sym jumps ∙ ap is_jump (eqb-true jump code is) ∙ straight)
+
+abbrev pub Onward : Asked
+Onward alt_pops alt_pushed jump = jump ≡ None
+
+-- it goes on after itself
+pub row-straight : (context : Context) (check : Check) (i : Decoded) (size : ℕ) → is_jump i.code ≡ false
+    → (items alt : List Item) → Fair Onward (Unit {0}) (row context check i size items alt)
+row-straight context check i size straight =
+    lines Onward (Unit {0}) refl context check i size
+    (control Onward (Unit {0}) refl i size
+    (λ is. absurd (no_jump i.code straight 0x63 refl is))
+    (λ is. absurd (no_jump i.code straight 0x64 refl is))
+    (λ is. single Onward (Unit {0}) refl to_alt_row (λ a. (omega arith, refl)))
+    (λ is. of_alt Onward (Unit {0}) refl from_alt_row (λ a. (omega arith, refl))))
+    (λ is. tt)
+
+-- it is the same in a program of any length
+unequal : (b : Bool) → (b ≡ true → ⊥) → b ≡ false
+unequal true not = absurd (not refl)
+unequal false not = refl
+
+control-sizes : (i : Decoded) (size size' : ℕ) → is_jump i.code ≡ false → control_rule i size ≡ control_rule i size'
+unfolding control_rule
+control-sizes i size size' straight =
+    rw (unequal (eqb 0x63 i.code) (no_jump i.code straight 0x63 refl))
+    (rw (unequal (eqb 0x64 i.code) (no_jump i.code straight 0x64 refl)) refl)
+
+pub row-sizes : (context : Context) (check : Check) (i : Decoded) (size size' : ℕ) (items alt : List Item)
+    → is_jump i.code ≡ false → row context check i size items alt ≡ row context check i size' items alt
+unfolding row
+row-sizes context check i size size' items alt straight =
+    ap (λ (controls : Rule).
+    cond (leb i.code 0x60) (push_rule i)
+    (cond (leb i.code 0x6c) controls
+    (cond (leb i.code 0x7d) (stack_rule i.code)
+    (cond (leb i.code 0x89) (string_rule i.code)
+    (cond (leb 0x8b i.code && leb i.code 0xa5) (number_rule i.code) (high_rule context check i.code))))) items alt)
+    (control-sizes i size size' straight)
+
+-- ---- the line of a code on the data stack alone
+
+abbrev OnData : Asked
+OnData alt_pops alt_pushed jump = (alt_pops ≡ 0) × (alt_pushed ≡ []) × (jump ≡ None)
+
+other_code : (code : ℕ) → on_data code ≡ true → (other : ℕ) → on_data other ≡ false → eqb other code ≡ true → ⊥
+other_code code on other off is = true≢false (sym on ∙ sym (ap on_data (eqb-true other code is)) ∙ off)
+
+row-on_data : (context : Context) (check : Check) (i : Decoded) (size : ℕ) → on_data i.code ≡ true
+    → (items alt : List Item) → Fair OnData ⊥ (row context check i size items alt)
+row-on_data context check i size on =
+    lines OnData ⊥ (refl, refl, refl) context check i size
+    (control OnData ⊥ (refl, refl, refl) i size
+    (λ is. absurd (other_code i.code on 0x63 refl is))
+    (λ is. absurd (other_code i.code on 0x64 refl is))
+    (λ is. absurd (other_code i.code on 0x6b refl is))
+    (λ is. absurd (other_code i.code on 0x6c refl is)))
+    (other_code i.code on 0xc0 refl)
+
+only_data : (rule : Row) → Fair OnData ⊥ rule → WorksOnData rule
+only_data (Faults kind) fair = tt
+only_data (Does e) fair = fair.1
+only_data (Calls called asked count) fair = fair
+
+pub works_on_data : (context : Context) (check : Check) (i : Decoded) (size : ℕ) (items alt : List Item)
+    → on_data i.code ≡ true → WorksOnData (row context check i size items alt)
+works_on_data context check i size items alt on =
+    only_data (row context check i size items alt) (row-on_data context check i size on items alt)
+
+-- ---- the lines of jumps
+
+pub row-jump : (context : Context) (check : Check) (place size : ℕ) (items alt : List Item)
+    → row context check (jump 0x63 place) size items alt ≡ jump_row 0 place size
+unfolding row control_rule
+row-jump context check place size items alt = refl
+
+pub row-jump_if : (context : Context) (check : Check) (place size : ℕ) (items alt : List Item)
+    → row context check (jump 0x64 place) size items alt ≡ on_one (jump_if_row place size) items alt
+unfolding row control_rule
+row-jump_if context check place size items alt = refl

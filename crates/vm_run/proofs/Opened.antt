@@ -11,7 +11,7 @@ use Rattle.vm_run.specs.Making.{calls, high_rule}
 use Rattle.vm_run.specs.Row.{rule}
 use Rattle.vm_run.specs.Run.{Opens, row_move, child_limit}
 use Rattle.vm_run.specs.Follows.{IsOpened, call_move}
-use Rattle.vm_run.proofs.Payment.{opening}
+use Rattle.vm_run.specs.Moves.{opening}
 
 -- the line of CHECKPREDICATE
 pub rule-calls : (context : Context) (check : Check) (i : Decoded) (size : ℕ) (items alt : List Item) → i.code ≡ 0xc0 → rule context check i size items alt ≡ calls items alt

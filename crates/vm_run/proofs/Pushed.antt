@@ -7,19 +7,13 @@ use Rattle.std.proofs.lemmas.Bool.Decides.{nat_tests}
 use Rattle.std.specs.Int.{w16, w32, to_le_bytes}
 use Rattle.vm_num.specs.Item.{Item, num_bytes}
 use Rattle.vm_num.specs.Push.{push_of, push_int_of}
-use Rattle.vm_num.proofs.Numbers.{length-num_bytes}
-use Rattle.vm_num.proofs.Pushes.{push_of_minus_one, push_of_zero, push_of_small, push_of_large, push_of_negative}
-use Rattle.vm_code.specs.Instruction.{Decoded, Misread, instruction_at, decoded, decoded_front, data_at, counted_at, little_endian, plain}
+use Rattle.vm_num.specs.Numbers.{length-num_bytes}
+use Rattle.vm_num.specs.PushLaws.{push_of_minus_one, push_of_zero, push_of_small, push_of_large, push_of_negative}
+use Rattle.vm_code.specs.Readings.{read_there}
+use Rattle.vm_code.specs.Instruction.{Decoded, Misread, instruction_at, decoded, data_at, counted_at, little_endian, plain}
 use Rattle.vm_run.specs.Row.{Context, row, push_row}
 use Rattle.keyed.specs.Functions.{Check}
 use Rattle.vm_run.specs.Pushes.{ReadsData, ReadsPush}
-
--- ---- what is read at the place of a code
-
-pub read_there : (code : ℕ) (behind before after : List ℕ) → instruction_at (before ++ (code ∷ behind) ++ after) (length before) ≡ decoded code (behind ++ after)
-unfolding instruction_at
-read_there code behind before after =
-    ap decoded_front (ap (drop (length before)) (append_assoc before (code ∷ behind) after) ∙ drop_at before (code ∷ behind ++ after) (length before) refl)
 
 -- ---- data after a field
 
@@ -147,6 +141,7 @@ record Pushes (bytes : List ℕ) (item : Item) : Type 0 where
   pub there : Reads bytes i
   pub len : i.len ≡ length bytes
   pub rule : (context : Context) (check : Check) (size : ℕ) (items alt : List Item) → row context check i size items alt ≡ push_row item
+  pub code : i.code ≤ 0x60
 
 push_item : (item : Item) → length item < 2 ^ 32 → Pushes (push_of item) item
 push_item item h =
@@ -156,10 +151,11 @@ push_item item h =
       there = r.there;
       len = r.len;
       rule = λ context check size items alt. row-data context check r.i size items alt r.code ∙ ap push_row r.pushed;
+      code = omega (arith, r.code);
     }
 
 reads_push : (bytes before after : List ℕ) (item : Item) → Pushes bytes item → ReadsPush (instruction_at (before ++ bytes ++ after) (length before)) item (length bytes)
-reads_push bytes before after item p = subst (λ (read : Result Decoded Misread). ReadsPush read item (length bytes)) (sym (p.there before after)) (p.len, p.rule)
+reads_push bytes before after item p = subst (λ (read : Result Decoded Misread). ReadsPush read item (length bytes)) (sym (p.there before after)) (p.len, p.rule, p.code)
 
 pub reads_item : (item before after : List ℕ) → length item < 2 ^ 32 → ReadsPush (instruction_at (before ++ push_of item ++ after) (length before)) item (length (push_of item))
 reads_item item before after h = reads_push (push_of item) before after item (push_item item h)
@@ -189,6 +185,7 @@ push_small n some small = record {
   there = λ before after. read_there (80 + n) [] before after ∙ decoded_small n after some small;
   len = refl;
   rule = λ context check size items alt. row_small context check n size items alt some small;
+  code = omega arith;
 }
 
 push_minus_one : Pushes (79 ∷ []) (num_bytes (negsuc 0))
@@ -197,6 +194,7 @@ push_minus_one = record {
   there = λ before after. read_there 79 [] before after;
   len = refl;
   rule = row_minus_one;
+  code = omega arith;
 }
 
 push_zero : Pushes (0 ∷ []) (num_bytes (pos 0))
@@ -205,6 +203,7 @@ push_zero = record {
   there = λ before after. read_there 0 [] before after;
   len = refl;
   rule = row_empty;
+  code = omega arith;
 }
 
 push_other : (z : ℤ) → Pushes (push_of (num_bytes z)) (num_bytes z)

@@ -5,7 +5,7 @@ use Rattle.std.proofs.lemmas.List.Sums.{sum_by-append, sum_by-cons}
 use Rattle.std.proofs.lemmas.List.Sorted.{IsPermutation-reverse, sum_by-IsPermutation}
 use Rattle.vm_num.specs.Item.{Item, cost, total_cost}
 use Rattle.vm_code.specs.Instruction.{Decoded, Misread, instruction_at}
-use Rattle.vm_code.proofs.Longer.{within}
+use Rattle.vm_code.specs.Readings.{within}
 use Rattle.vm_run.specs.Row.{Context, Row, Faults, Does, Calls, Effect, row}
 use Rattle.keyed.specs.Functions.{Check}
 use Rattle.vm_run.specs.Run.{Outcome, Ended, FailedAt, later, count_of, Child, Move, Stops, Goes, Opens, popped_cost, pushed_cost, next_place, paid, opened, row_move, instruction_move, move, top_is_true, is_good, spent_in, lost_in, given_back, with_result, left_behind, Run, at_end, fails, goes_on, opens}
@@ -18,14 +18,8 @@ use Rattle.vm_run.specs.Follows.{IsOpened, call_move}
 use Rattle.vm_run.specs.declared.predicate.Opened.{Opened}
 use Rattle.vm_run.specs.declared.machine.Machine.{Machine}
 use Rattle.vm_stack.specs.Stacks.{held_cost}
-use Rattle.vm_run.proofs.Fair.{Within, Fair, row-fair, predicate}
-use Rattle.vm_run.proofs.Payment.{short_of_base, short_of_price, covered, cost-split, child_limit-within, short_of_opening, short_of_asked, opening}
-
--- ---- the move at a place, by the instruction that is read there
-
-pub move-read : (context : Context) (check : Check) (program : List ℕ) (place : ℕ) (items alt : List Item) (limit : ℕ) (read : Result Decoded Misread) → instruction_at program place ≡ read → move context check program place items alt limit ≡ instruction_move context check (length program) place items alt limit read
-unfolding move
-move-read context check program place items alt limit read is = ap (instruction_move context check (length program) place items alt limit) is
+use Rattle.vm_run.proofs.Fair.{Within, Inside, Fair, row-fair, predicate}
+use Rattle.vm_run.specs.Moves.{move-read, short_of_base, short_of_price, covered, cost-split, child_limit-within, short_of_opening, short_of_asked, opening}
 
 -- ---- one outcome
 
@@ -87,7 +81,7 @@ leads : (size behind : ℕ) (jump : Option ℕ) → behind ≤ size → Within s
 leads size behind None inside within = inside
 leads size behind (Some place) inside within = within
 
-paid-keeps : (size behind : ℕ) (items alt : List Item) (limit : ℕ) (e : Effect) → behind ≤ size → Fair (Within size) (Does e) → Keeps size items alt limit (paid behind items alt limit e)
+paid-keeps : (size behind : ℕ) (items alt : List Item) (limit : ℕ) (e : Effect) → behind ≤ size → Fair (Inside size) (Unit {0}) (Does e) → Keeps size items alt limit (paid behind items alt limit e)
 paid-keeps size behind items alt limit e inside fair = elim (cases_lt limit e.base) [
   | inl short ↦ subst (Keeps size items alt limit) (sym (short_of_base behind limit items alt e short)) tt
   | inr covers ↦ elim (cases_lt (limit + popped_cost e items alt) (e.base + pushed_cost e)) [
@@ -109,7 +103,7 @@ opened-keeps size behind items alt limit program asked count inside = elim (case
   ]
 ]
 
-row-keeps : (size behind : ℕ) (items alt : List Item) (limit : ℕ) (rule : Row) → behind ≤ size → Fair (Within size) rule → Keeps size items alt limit (row_move behind items alt limit rule)
+row-keeps : (size behind : ℕ) (items alt : List Item) (limit : ℕ) (rule : Row) → behind ≤ size → Fair (Inside size) (Unit {0}) rule → Keeps size items alt limit (row_move behind items alt limit rule)
 row-keeps size behind items alt limit (Faults kind) inside fair = tt
 row-keeps size behind items alt limit (Does e) inside fair = paid-keeps size behind items alt limit e inside fair
 row-keeps size behind items alt limit (Calls program asked count) inside fair = opened-keeps size behind items alt limit program asked count inside
@@ -225,7 +219,7 @@ module _ (m : Machine) where
   kept : (at : Move) → call_move m ≡ at → Keeps m.at m.stack.items m.stack.alt m.left at
   kept at is =
       subst (Keeps m.at m.stack.items m.stack.alt m.left) is
-      (row-keeps m.at m.at m.stack.items m.stack.alt m.left (calls m.stack.items m.stack.alt) (omega arith) (predicate (Within m.at) tt m.stack.items m.stack.alt))
+      (row-keeps m.at m.at m.stack.items m.stack.alt m.left (calls m.stack.items m.stack.alt) (omega arith) (predicate (Inside m.at) (Unit {0}) tt tt m.stack.items m.stack.alt))
 
   pub falls : (o : Opened) (m' : Machine) → IsOpened (call_move m) (Ok o) m' → m'.left + held_cost m'.stack + (o.child.left + held_cost o.child.stack) < m.left + held_cost m.stack
   falls o m' opened =

@@ -5,7 +5,7 @@ use Rattle.std.proofs.lemmas.Bool.{cases_lt, lt-ltb, le-ltb}
 use Rattle.vm_num.specs.Item.{Item, is_true}
 use Rattle.vm_num.specs.declared.failure.Failure.TheVariants.{BadOpcode, BadJump, FailCode}
 use Rattle.vm_code.specs.Instruction.{Decoded, Misread, instruction_at, is_jump}
-use Rattle.vm_code.proofs.Longer.{within, begun, fronted}
+use Rattle.vm_code.specs.Readings.{within, begun, fronted}
 use Rattle.vm_ops.specs.Results.{entry_at}
 use Rattle.vm_run.specs.Effect.{Effect, Row, Faults, Does, Calls, Rule, does, always, on_one, on_alt}
 use Rattle.vm_run.specs.Moving.{push_rule, jump_row, jump_if_row, verify_row, to_alt_row, from_alt_row, control_table, control_rule, stack_rule}
@@ -14,9 +14,8 @@ use Rattle.vm_run.specs.Row.{Context, row}
 use Rattle.keyed.specs.Functions.{Check}
 use Rattle.vm_run.specs.Run.{Outcome, Ended, FailedAt, later, Move, Stops, Goes, Opens, row_move, instruction_move, move, goes_on, opens, paid, popped_cost, pushed_cost}
 use Rattle.vm_run.specs.Stretch.{State, RunFrom, Completes, alone, with_child, Steps, none, and_one, stretch_move, Stretch, nothing, and_then, further, Straight, no_more, straight_on}
-use Rattle.vm_run.proofs.Fair.{Fair, row-straight}
-use Rattle.vm_run.proofs.Payment.{short_of_base, short_of_price, covered, short_of_opening, short_of_asked, opening}
-use Rattle.vm_run.proofs.Runs.{move-read}
+use Rattle.vm_run.proofs.Fair.{Fair, Onward, row-straight}
+use Rattle.vm_run.specs.Moves.{move-read, short_of_base, short_of_price, covered, short_of_opening, short_of_asked, opening}
 
 -- ---- steps, and runs after them
 
@@ -230,7 +229,7 @@ module _ (n behind : ℕ) (items alt : List Item) (limit : ℕ) where
     ]
   ]
 
-  row_shifted : (rule : Row) → Fair (λ jump. jump ≡ None) rule → row_move (n + behind) items alt limit rule ≡ shifted n (row_move behind items alt limit rule)
+  row_shifted : (rule : Row) → Fair Onward (Unit {0}) rule → row_move (n + behind) items alt limit rule ≡ shifted n (row_move behind items alt limit rule)
   row_shifted (Faults kind) fair = refl
   row_shifted (Does e) fair = paid_shifted e fair.1
   row_shifted (Calls program asked count) fair = elim (cases_lt limit 256) [

@@ -2,8 +2,11 @@ pub mod Introspection
 pub mod Effect
 pub mod Ends
 pub mod Follows
+pub mod Ids
 pub mod Laws
+pub mod Lines
 pub mod Making
+pub mod Moves
 pub mod Moving
 pub mod Operands
 pub mod Pushes

@@ -10,10 +10,11 @@ abbrev pub ReadsData : Result Decoded Misread → Item → ℕ → Type 0
 ReadsData (Ok i) item len = (i.pushed ≡ item) × (i.len ≡ len) × (i.code ≤ 0x4e)
 ReadsData (Err why) item len = ⊥
 
--- an instruction of this length is read, and its line of the table pushes this item
+-- an instruction of this length is read, its line of the table pushes this item, and its code, 60 at most, is no jump's
 abbrev pub ReadsPush : Result Decoded Misread → Item → ℕ → Type 0
 ReadsPush (Ok i) item len =
     (i.len ≡ len)
     × ((context : Context) (check : Check) (size : ℕ) (items alt : List Item)
     → row context check i size items alt ≡ push_row item)
+    × (i.code ≤ 0x60)
 ReadsPush (Err why) item len = ⊥

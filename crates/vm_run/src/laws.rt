@@ -3,7 +3,7 @@ ghost use Rattle.std.specs.Prelude.{◌≡◌, ◌<◌, ◌≤◌, ◌+◌, ◌^
 ghost use Rattle.vm_num.specs.Item.{Item, num_bytes, total_cost};
 ghost use Rattle.vm_num.specs.Push.{push_of, push_int_of};
 ghost use Rattle.vm_code.specs.Instruction.{instruction_at};
-ghost use Rattle.vm_run.specs.Laws.{held, StepLaws, StretchLaws};
+ghost use Rattle.vm_run.specs.Laws.{held, LineLaws, MoveLaws, PaymentLaws, StepLaws, StretchLaws};
 ghost use Rattle.vm_run.specs.Pushes.{ReadsData, ReadsPush};
 ghost use Rattle.vm_run.specs.Row.{Context};
 ghost use Rattle.keyed.specs.Functions.{Check};
@@ -11,6 +11,26 @@ ghost use Rattle.vm_run.specs.Run.{Outcome, Ended, Run, count_of};
 ghost use Rattle.vm_run.specs.Stretch.{State, RunFrom};
 ghost use Rattle.vm_run.specs.Verdict.{HasVerdict};
 ghost use Rattle.vm_run.specs.declared.verdict.Verdict.{Verdict};
+
+/// The line of an instruction that is no jump is the same in programs of all lengths. That of every code but JUMP,
+/// JUMPIF, TOALTSTACK, FROMALTSTACK and CHECKPREDICATE leaves the alt stack, does not jump and calls no program. It
+/// does nothing when it runs.
+pub fn lines()
+    ensures { (context : Context) (check : Check) → LineLaws context check }
+{}
+
+/// The move at a place is that of the line of the instruction that is read there; where none is, the run stops. It does
+/// nothing when it runs.
+pub fn moves()
+    ensures { (context : Context) (check : Check) (program : List ℕ) (place : ℕ)
+        → MoveLaws context check program place }
+{}
+
+/// What an instruction's line comes to, in numbers: the run stops for want of the base or of the price, or goes on with
+/// so much left, or a child is opened with so much given to it. It does nothing when it runs.
+pub fn payments()
+    ensures { (behind : ℕ) (items alt : List Item) (limit : ℕ) → PaymentLaws behind items alt limit }
+{}
 
 /// A run has no two outcomes.
 pub fn one_outcome()
@@ -47,7 +67,7 @@ pub fn stretches()
 {}
 
 /// What `push_bytes` and `push_int` write is one instruction wherever it stands, and pushes the item or the number that
-/// it was written for.
+/// it was written for. Its code is 60 at most, and so none of a jump.
 pub fn pushes_read_back()
     ensures bytes { (item before after : List ℕ) → length item < 2 ^ 32 →
         ReadsData (instruction_at (before ++ push_of item ++ after) (length before)) item (length (push_of item)) }

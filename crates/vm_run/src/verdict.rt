@@ -25,9 +25,12 @@ pub enum Verdict {
     Failed { kind: Failure, at: u64 },
 }
 
-/// Runs a program on its arguments, the first of them deepest, in a context and under a run limit below 2^63. The
-/// arguments are paid for first; where the limit does not cover them, the program fails with `RunLimit` at 0. `sigs`
-/// says which signatures are good.
+/// Runs a program on its arguments, the first of them deepest, in a context and under a run limit of at most 100,000.
+/// The arguments are paid for first; where the limit does not cover them, the program fails with `RunLimit` at 0.
+/// `sigs` says which signatures are good.
+///
+/// A program that a program calls is run by a call, on the system's stack. The limit bounds how deep that goes, which
+/// is why there is a greatest one.
 pub fn verify<C: SigCheck>(
     alloc: Global,
     ctx: &Context,
@@ -36,7 +39,7 @@ pub fn verify<C: SigCheck>(
     args: &Args,
     limit: u64,
 ) -> Result<Verdict, NoMemory>
-    requires limit { limit < 2 ^ 63 }
+    requires limit { limit ≤ 100000 }
     requires numbers { NumbersFit ctx.now }
     ensures verdict { IfOk result (HasVerdict ctx.now (C.good_of sigs.now) program.now args.now limit) }
 

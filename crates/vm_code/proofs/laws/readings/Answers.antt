@@ -1,4 +1,4 @@
-use Rattle.vm_code.proofs.Longer.{within, begun, fronted}
+use Rattle.vm_code.specs.Readings.{within, begun, fronted}
 use Rattle.vm_code.proofs.laws.readings.Goals as goal
 
 pub returns : goal.returns

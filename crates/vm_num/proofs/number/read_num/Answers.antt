@@ -3,7 +3,7 @@ use Rattle.std.proofs.lemmas.Int.{to_z-of_z}
 use Rattle.std.proofs.lemmas.List.{drop-replicate}
 use Rattle.std.specs.Int.RustNames.{FitsSigned}
 use Rattle.std.specs.Int.{cast_signed, w64, from_le_bytes}
-use Rattle.vm_num.proofs.Numbers.{num_past, num_is}
+use Rattle.vm_num.specs.Numbers.{num_past, num_is}
 use Rattle.vm_num.proofs.number.read_num.Goals as goal
 
 pub returns-then-b-gt8 : goal.returns-then-b-gt8

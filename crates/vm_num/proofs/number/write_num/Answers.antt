@@ -2,7 +2,8 @@ use Rattle.std.proofs.Common.{◌≡◌, length, take, ℕ, List, sym, ap, ◌�
 use Rattle.std.proofs.lemmas.Int.{to_z-of_z}
 use Rattle.std.specs.Int.{w64, to_le_bytes, cast_unsigned}
 use Rattle.vm_num.specs.Item.{num, num_bytes, without_high_zeros}
-use Rattle.vm_num.proofs.Numbers.{one_less, none_less, num-num_bytes, length-num_bytes_least}
+use Rattle.vm_num.specs.Numbers.{num-num_bytes}
+use Rattle.vm_num.proofs.Numbers.{one_less, none_less, length-num_bytes_least}
 use Rattle.vm_num.proofs.number.write_num.Goals as goal
 use Rattle.vm_num.proofs.number.write_num.Goals.{then-loop-len-test+else-bytes-len-eq0, else-loop-len-test}
 

@@ -5,7 +5,7 @@ use Rattle.std.specs.Int.RustNames.{unsigned_abs}
 use Rattle.std.proofs.lemmas.Grind.{common_steps}
 use Rattle.vm_num.specs.Item.{num_bytes}
 use Rattle.vm_num.specs.Push.{push_of, push_int_of}
-use Rattle.vm_num.proofs.Pushes.{push_of_minus_one, push_of_zero, push_within, push_above, push_below}
+use Rattle.vm_num.specs.PushLaws.{push_of_minus_one, push_of_zero, push_within, push_above, push_below}
 use Rattle.vm_num.proofs.push.push_int.Goals as goal
 use Rattle.vm_num.proofs.push.push_int.Goals.{in_default-via-then-n-ltminus1, in_default-via-else-n-ltminus1+else-n-lt17}
 

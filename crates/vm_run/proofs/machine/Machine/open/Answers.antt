@@ -2,7 +2,7 @@ use Rattle.std.proofs.Common.{◌≡◌, ◌-◌, [], take, drop, refl, sym, ◌
 use Rattle.vm_stack.specs.Stacks.{Stacks}
 use Rattle.vm_run.specs.Run.{child_limit}
 use Rattle.vm_run.proofs.Opened.{opens}
-use Rattle.vm_run.proofs.Payment.{all-of-it, as-asked}
+use Rattle.vm_run.specs.Moves.{all-of-it, as-asked}
 use Rattle.vm_run.proofs.Runs.{falls, repaid}
 use Rattle.vm_run.proofs.machine.Machine.open.Goals as goal
 use Rattle.vm_run.proofs.machine.Machine.open.Goals.{then-asked-eq0, else-asked-eq0}

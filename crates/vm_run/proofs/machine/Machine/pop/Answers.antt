@@ -1,7 +1,8 @@
 use Rattle.std.proofs.Common.{◌≡◌, ◌+◌, [], drop, refl, ap, arith}
 use Rattle.vm_num.specs.Item.{total_cost}
 use Rattle.vm_stack.specs.Stacks.{held_cost}
-use Rattle.vm_run.proofs.Payment.{done, cost-split}
+use Rattle.vm_run.specs.Moves.{cost-split}
+use Rattle.vm_run.proofs.Payment.{done}
 use Rattle.vm_run.proofs.machine.Machine.pop.Goals as goal
 
 pub overflow_sub-self-in-Ok : goal.overflow_sub-self-in-Ok

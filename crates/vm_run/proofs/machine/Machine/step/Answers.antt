@@ -1,5 +1,5 @@
 use Rattle.vm_run.specs.Row.{row}
-use Rattle.vm_run.proofs.Runs.{move-read}
+use Rattle.vm_run.specs.Moves.{move-read}
 use Rattle.vm_run.proofs.machine.Machine.step.Goals as goal
 
 pub returns-in-Ok : goal.returns-in-Ok

@@ -1,4 +1,4 @@
--- Pushes of numbers, range by range.
+-- Pushes of numbers, range by range. Laws with their proofs.
 use Rattle.std.proofs.Common.{◌≡◌, ℕ, ◌+◌, ◌<◌, ◌≤◌, [], ◌∷◌, ℤ, pos, negsuc, ◌<ℤ◌, refl, arith}
 use Rattle.std.proofs.lemmas.Bool.Decides.{nat_tests}
 use Rattle.std.proofs.lemmas.Int.{ints}
