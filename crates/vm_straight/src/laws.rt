@@ -1,0 +1,38 @@
+//! Laws of straight code, each the contract of a function with nothing to do.
+ghost use Rattle.keyed.specs.Functions.{Check};
+ghost use Rattle.vm_run.specs.declared.context.Context.{Context};
+ghost use Rattle.vm_straight.specs.Laws.{JoiningLaws, StraightLaws};
+ghost use Rattle.vm_straight.specs.ChoiceLaws.{ChoiceLaws};
+ghost use Rattle.vm_straight.specs.WrappedLaws.{WrappedLaws};
+
+use crate::known::known;
+
+/// Code after code has the bytes, the stack and the needs of the two together. It does nothing when it runs.
+pub fn joining()
+    ensures { (context : Context) (check : Check) → JoiningLaws context check }
+{}
+
+/// Straight code runs to its end exactly where it does not fail and the limit covers what it needs: wherever it stands
+/// in a program, success before it is success after it, with the stack that it leaves, and the other way. It does
+/// nothing when it runs.
+pub fn straight_code()
+    ensures { (context : Context) (check : Check) → StraightLaws context check }
+{
+    known();
+}
+
+/// Of several pieces of code behind guards, the one whose number an item is runs, and the others are passed over. It
+/// does nothing when it runs.
+pub fn guarded_choice()
+    ensures { (context : Context) (check : Check) → ChoiceLaws context check }
+{
+    known();
+}
+
+/// A wrapped program succeeds exactly where its body does on the items that are pushed and the arguments, and the limit
+/// covers both. It does nothing when it runs.
+pub fn wrapped_form()
+    ensures { (context : Context) (check : Check) → WrappedLaws context check }
+{
+    known();
+}
