@@ -14,7 +14,7 @@ use Rattle.filter_syntax.specs.declared.fault.FilterFault.{FilterFault}
 use Rattle.filter_syntax.specs.declared.fault.FilterFault.TheVariants as faults
 use Rattle.filter_syntax.specs.Token.{Name, End, Bad, CanBeWritten, written}
 use Rattle.filter_syntax.specs.Shown.{shown, tokens_at}
-use Rattle.filter_syntax.specs.Tokens.{ended}
+use Rattle.grammars.specs.Tokens.{ends}
 use Rattle.filter_syntax.specs.Tokens.{Placed}
 use Rattle.filter_syntax.specs.Grammar.{Alternatives}
 use Rattle.filter_syntax.specs.Texts.{IsFilterText, HasTokens, SyntaxAt, ReadsAs, UnknownAt, AreKnown, kind_of, limited_to}
@@ -318,7 +318,7 @@ printed_again kind text None h = (
   record {
     tokens = [];
     end = 0;
-    has = record { placed = (End, 0) ∷ []; are = ended 0; limited = refl };
+    has = record { placed = (End, 0) ∷ []; are = ends 0; limited = refl };
     reads = refl;
   },
 )

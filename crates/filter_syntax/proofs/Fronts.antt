@@ -1,13 +1,15 @@
 -- The longest token of a text is what is found from its first byte on.
-use Rattle.std.proofs.Common.{◌≡◌, ℕ, ◌+◌, ◌<◌, ◌≤◌, ◌^◌, ◌&&◌, Bool, true, false, cond, eqb, leb, List, [], ◌∷◌, ◌++◌}
-use Rattle.std.proofs.Common.{length, drop, get_or, Option, Some, None, arith, refl, sym, ap, ◌∙◌, subst, ◌⊎◌, inl}
-use Rattle.std.proofs.Common.{inr, append_assoc, length-append, length-drop, add-zero}
+use Rattle.std.proofs.Common.{◌≡◌, ℕ, ◌<◌, ◌≤◌, ◌^◌, ◌&&◌, Bool, true, false, cond, eqb, leb, List, [], ◌∷◌, ◌++◌}
+use Rattle.std.proofs.Common.{length, take, drop, Option, Some, None, arith, refl, sym, ap, ◌∙◌, subst, ◌⊎◌, inl}
+use Rattle.std.proofs.Common.{inr, append_assoc, length-append}
 use Rattle.std.specs.Prelude.{codes, decimal, option_and_then}
-use Rattle.std.proofs.lemmas.List.{take-append-drop, append-nil, get_or-drop}
+use Rattle.std.specs.Option.{option_map}
+use Rattle.std.proofs.lemmas.Option.{none-some, same_Some}
+use Rattle.std.proofs.lemmas.List.{take-append-drop, append-nil}
 use Rattle.std.proofs.Math.Seq.{drop-append_seam}
 use Rattle.std.proofs.lemmas.Fmt.{decimal_nonempty}
 use Rattle.std.proofs.lemmas.Bool.Decides.{nat_tests}
-use Rattle.std.proofs.lemmas.List.Sums.{take_while-cons, prefix_len_stops}
+use Rattle.std.proofs.lemmas.List.Sums.{take_while-cons}
 use Rattle.std.proofs.lemmas.List.Folds.{length-prefix_len, list_all-append}
 use Rattle.std.proofs.lemmas.Bool.{leb-true, cond-true, cond-false, and_parts, and_from, and_left, false≢true}
 use Rattle.std.proofs.lemmas.Bool.{eqb-true, ne_eqb}
@@ -15,15 +17,22 @@ use Rattle.std.specs.List.{list_all, prefix_len, take_while}
 use Rattle.std.specs.Char.{is_ascii_digit}
 use Rattle.wire.specs.Spelling.{greatest}
 use Rattle.wire.specs.Decimal.{decimal_within, digits_written}
+use Rattle.grammars.specs.Tokens.{Begins}
+use Rattle.grammars.specs.Scanner.{Reaches, IsToken}
+use Rattle.grammars.specs.Runs.{run_passes, run_stops, run_ends}
 use Rattle.filter_syntax.specs.Spelling.{begins_name, is_name_byte, is_word, is_quotable}
 use Rattle.filter_syntax.specs.Token.{Token, Open, Close, Equals, And, Or, Inputs, Outputs, Name, Quoted, Number}
 use Rattle.filter_syntax.specs.Token.{Param, End, Bad, spelling, CanBeWritten}
-use Rattle.filter_syntax.specs.Tokens.{IsApart, MayPrecede, BeginsWith, BeginsWithLongest, BeginsWithNone}
+use Rattle.filter_syntax.specs.Tokens.{IsApart, EndsBefore, lexicon}
 use Rattle.filter_syntax.specs.Lexing.{run_of, word_token, run_token, numbered, param_token, closed}
 use Rattle.filter_syntax.specs.Lexing.{quoted_token, first_token}
 use Rattle.filter_syntax.proofs.Numbers.{chosen, when, number_is, number_again}
 use Rattle.filter_syntax.proofs.WordTokens.{word_spelled, word_bytes, word_some, name_again, and_again, or_again}
 use Rattle.filter_syntax.proofs.WordTokens.{inputs_again, outputs_again, run_is, word_run, number_run}
+
+-- the text is this token and then the rest
+abbrev BeginsWith : List ℕ → Token → List ℕ → Type 0
+BeginsWith text token rest = Begins lexicon text token (spelling token) rest
 
 -- ---- the prefix that passes a test
 
@@ -35,40 +44,15 @@ module _ (p : ℕ → Bool) where
       take_while-cons p b (w ++ more) ∙ cond-true (p b) (b ∷ take_while p (w ++ more)) [] parts.0
       ∙ ap (λ (l : List ℕ). b ∷ l) (front_onto w more parts.1)
 
-  pub front_passes : (text : List ℕ) → list_all p (take_while p text) ≡ true
-  front_passes [] = refl
-  front_passes (b ∷ text) = by (p b) refl (front_passes text)
-    where
-      by : (t : Bool) → p b ≡ t → list_all p (take_while p text) ≡ true → list_all p (take_while p (b ∷ text)) ≡ true
-      by true is rest = ap (list_all p) (take_while-cons p b text ∙ cond-true (p b) (b ∷ take_while p text) [] is)
-          ∙ and_from (p b) (list_all p (take_while p text)) is rest
-      by false is rest = ap (list_all p) (take_while-cons p b text ∙ cond-false (p b) (b ∷ take_while p text) [] is)
-
   pub front_split : (text : List ℕ) → text ≡ take_while p text ++ drop (prefix_len p text) text
   front_split text = sym (take-append-drop (prefix_len p text) text)
 
 -- ---- runs
 
 pub run_apart : (more : List ℕ) → IsApart more → run_of more ≡ []
-run_apart [] apart = refl
-run_apart (b ∷ more) apart = take_while-cons is_name_byte b more
-    ∙ cond-false (is_name_byte b) (b ∷ run_of more) [] apart
+run_apart more apart = ap (λ (n : ℕ). take n more) (run_ends is_name_byte more apart)
 
-apart_first : (text : List ℕ) → (0 < length text → is_name_byte (get_or text 0 0) ≡ false) → IsApart text
-apart_first [] fails = tt
-apart_first (b ∷ text) fails = fails (omega arith)
-
-pub behind_run : (text : List ℕ) → IsApart (drop (prefix_len is_name_byte text) text)
-behind_run text = apart_first (drop (prefix_len is_name_byte text) text) (λ some.
-    let within : prefix_len is_name_byte text < length text =
-    omega (arith, length-drop (prefix_len is_name_byte text) text) in
-    let there : get_or (drop (prefix_len is_name_byte text) text) 0 0 ≡ get_or text
-    (prefix_len is_name_byte text + 0) 0 = get_or-drop (prefix_len is_name_byte text) text 0 0 in
-    let stops = prefix_len_stops is_name_byte text 0 within in
-    ap is_name_byte there ∙ ap (λ (n : ℕ). is_name_byte (get_or text n 0)) (add-zero (prefix_len is_name_byte text))
-    ∙ stops)
-
-pub apart_any : (token : Token) (rest : List ℕ) → IsApart rest → MayPrecede token rest
+pub apart_any : (token : Token) (rest : List ℕ) → IsApart rest → EndsBefore token rest
 apart_any (Number n) rest apart = apart
 apart_any (Param n) rest apart = apart
 apart_any _ rest apart = tt
@@ -117,7 +101,7 @@ leads_word w other more word is = by (run_of more) refl
   where
     found : first_token (w ++ more) ≡ Some (word_token (w ++ run_of more))
     found = run_first w more (word_some w word) (word_bytes w word)
-        ∙ word_run (w ++ run_of more) (word_onto w (run_of more) word (front_passes is_name_byte more))
+        ∙ word_run (w ++ run_of more) (word_onto w (run_of more) word (run_passes is_name_byte more))
 
     by : (run : List ℕ) → run_of more ≡ run → Leads other more (w ++ more)
     by [] e =
@@ -248,7 +232,7 @@ equals_first : (more : List ℕ) → first_token (61 ∷ more) ≡ Some Equals
 unfolding first_token
 equals_first more = refl
 
-leads_at : (other : Token) (more : List ℕ) → CanBeWritten other → MayPrecede other more
+leads_at : (other : Token) (more : List ℕ) → CanBeWritten other → EndsBefore other more
     → Leads other more (spelling other ++ more)
 leads_at Open more formed apart = leads_sign Open more (40 ∷ more) (open_first more)
 leads_at Close more formed apart = leads_sign Close more (41 ∷ more) (close_first more)
@@ -264,9 +248,12 @@ leads_at (Param n) more formed apart = leads_param n more formed.0 formed.1 apar
 leads_at End more formed apart = absurd formed
 leads_at Bad more formed apart = absurd formed
 
-pub leads : (text : List ℕ) (other : Token) (more : List ℕ) → BeginsWith text other more → Leads other more text
-leads text other more begins = subst (λ (t : List ℕ). Leads other more t) (sym begins.split)
-    (leads_at other more begins.formed begins.apart)
+pub leads : (text : List ℕ) (other : Token) (bytes more : List ℕ) → Begins lexicon text other bytes more
+    → Leads other more text
+leads text other bytes more begins =
+    subst (λ (t : List ℕ). Leads other more t)
+    (ap (λ (l : List ℕ). l ++ more) (sym begins.spelled.1) ∙ sym begins.whole)
+    (leads_at other more begins.spelled.0 begins.ends)
 
 -- ---- what is found begins the text
 
@@ -278,7 +265,7 @@ behind_spelling run text token spelled is =
     ap (λ (l : List ℕ). length l) whole ∙ length-prefix_len is_name_byte text in (
       front_split is_name_byte text ∙ ap (λ (l : List ℕ). l ++ drop (prefix_len is_name_byte text) text) (sym whole)
           ∙ ap (λ (n : ℕ). spelling token ++ drop n text) (sym long),
-      subst (λ (n : ℕ). IsApart (drop n text)) (sym long) (behind_run text),
+      subst (λ (n : ℕ). IsApart (drop n text)) (sym long) (run_stops is_name_byte text),
     )
 
 run_begins : (text : List ℕ) (token : Token) → run_token (run_of text) ≡ Some token
@@ -287,9 +274,9 @@ run_begins text token is =
     let run = run_is (run_of text) token is in
     let behind = behind_spelling (run_of text) text token run.spelled refl in
     record {
-      formed = run.formed;
-      split = behind.0;
-      apart =
+      whole = behind.0;
+      spelled = (run.formed, refl);
+      ends =
           apart_any token (drop (length (spelling token)) text) behind.1;
     }
 
@@ -325,7 +312,7 @@ param_begins tail token is =
         → BeginsWith (36 ∷ tail) (Param n) (drop (length (36 ∷ decimal n)) (36 ∷ tail))
     at n low high same =
         let behind = behind_spelling (run_of tail) tail (Number n) same refl in
-        record { formed = (low, high); split = ap (λ (l : List ℕ). 36 ∷ l) behind.0; apart = behind.1 }
+        record { whole = ap (λ (l : List ℕ). 36 ∷ l) behind.0; spelled = ((low, high), refl); ends = behind.1 }
 
 closed_is : (text rest : List ℕ) (token : Token) → closed text rest ≡ Some token
     → (more : List ℕ) × (rest ≡ 39 ∷ more) × (Quoted text ≡ token)
@@ -363,20 +350,20 @@ quoted_begins tail token is =
         ap (λ (l : List ℕ). drop (length (39 ∷ (q ++ 39 ∷ []))) l) whole
         ∙ drop-append_seam (39 ∷ (q ++ 39 ∷ [])) more in
         record {
-          formed = ap (list_all is_quotable) front ∙ front_passes is_quotable tail;
-          split = whole ∙ ap (λ (l : List ℕ). (39 ∷ (q ++ 39 ∷ [])) ++ l) (sym rest);
-          apart = tt;
+          spelled = (ap (list_all is_quotable) front ∙ run_passes is_quotable tail, refl);
+          whole = whole ∙ ap (λ (l : List ℕ). (39 ∷ (q ++ 39 ∷ [])) ++ l) (sym rest);
+          ends = tt;
         }
 
 sign_begins : (b k : ℕ) (tail : List ℕ) (sign token : Token) → spelling sign ≡ k ∷ [] → CanBeWritten sign
-    → ((rest : List ℕ) → MayPrecede sign rest)
+    → ((rest : List ℕ) → EndsBefore sign rest)
     → eqb b k ≡ true → Some sign ≡ Some token → BeginsWith (b ∷ tail) token (drop (length (spelling token)) (b ∷ tail))
 sign_begins b k tail sign token spelled formed free is same =
     let one : sign ≡ token = cc in
     subst (λ (t : Token). BeginsWith (b ∷ tail) t (drop (length (spelling t)) (b ∷ tail))) one (record {
-      formed = formed;
-      split = rest;
-      apart = free (drop (length (spelling sign)) (b ∷ tail));
+      whole = rest;
+      spelled = (formed, refl);
+      ends = free (drop (length (spelling sign)) (b ∷ tail));
     })
   where
     rest : b ∷ tail ≡ spelling sign ++ drop (length (spelling sign)) (b ∷ tail)
@@ -427,58 +414,6 @@ begins (b ∷ tail) token is = one (chosen (eqb b 40) _ _ _ is)
     one (inl h) = sign_begins b 40 tail Open token refl tt (λ _. tt) h.0 h.1
     one (inr h) = two (chosen (eqb b 41) _ _ _ h.1)
 
--- ---- the longest token is what is found
-
-none_some : (t : Token) → ◌≡◌ {A = Option Token} None (Some t) → ⊥
-none_some t e = cc
-
-same_some : (a b : Token) → ◌≡◌ {A = Option Token} (Some a) (Some b) → a ≡ b
-same_some a b e = cc
-
-pub found_longest : (text : List ℕ) (token : Token) → first_token text ≡ Some token
-    → BeginsWithLongest text token (drop (length (spelling token)) text)
-found_longest text token is = record {
-  begins = begins text token is;
-  longest = λ other more b. at other (leads text other more b);
-}
-  where
-    at : (other : Token) {more : List ℕ} → Leads other more text → length (spelling other) ≤ length (spelling token)
-    at other lead = by lead.longer (same_some lead.token token (sym lead.is ∙ is))
-      where
-        by : (length (spelling other) < length (spelling lead.token)) ⊎ (other ≡ lead.token) → lead.token ≡ token
-            → length (spelling other) ≤ length (spelling token)
-        by (inl less) same = omega (arith, less, ap (λ (t : Token). length (spelling t)) same)
-        by (inr one) same = omega (arith, ap (λ (t : Token). length (spelling t)) (one ∙ same))
-
-pub longest_found : (text : List ℕ) (token : Token) (rest : List ℕ) → BeginsWithLongest text token rest
-    → first_token text ≡ Some token
-longest_found text token rest long = at (leads text token rest long.begins)
-  where
-    at : Leads token rest text → first_token text ≡ Some token
-    at lead = by lead.longer
-      where
-        by : (length (spelling token) < length (spelling lead.token)) ⊎ (token ≡ lead.token)
-            → first_token text ≡ Some token
-        by (inl less) = absurd (omega (
-          arith,
-          less,
-          long.longest lead.token (drop (length (spelling lead.token)) text)
-              (begins text lead.token lead.is),
-        ))
-        by (inr same) = lead.is ∙ ap Some (sym same)
-
-pub longest_rest : (text : List ℕ) (token : Token) (rest : List ℕ) → BeginsWithLongest text token rest
-    → rest ≡ drop (length (spelling token)) text
-longest_rest text token rest long =
-    sym (ap (λ (l : List ℕ). drop (length (spelling token)) l) long.begins.split
-    ∙ drop-append_seam (spelling token) rest)
-
-pub none_begins : (text : List ℕ) → first_token text ≡ None → BeginsWithNone text
-none_begins text is token rest b = at (leads text token rest b)
-  where
-    at : Leads token rest text → ⊥
-    at lead = none_some lead.token (sym is ∙ lead.is)
-
 -- a token is written with some bytes
 pub spelling_some : (token : Token) → CanBeWritten token → 0 < length (spelling token)
 spelling_some Open formed = omega arith
@@ -494,3 +429,53 @@ spelling_some (Number n) formed = decimal_nonempty n (omega arith)
 spelling_some (Param n) formed = omega arith
 spelling_some End formed = absurd formed
 spelling_some Bad formed = absurd formed
+
+-- ---- what is found, and how many bytes it takes
+
+abbrev pub measured : Token → Token × ℕ
+measured token = (token, length (spelling token))
+
+abbrev pub found : List ℕ → Option (Token × ℕ)
+found text = option_map measured (first_token text)
+
+pub reaches : (text : List ℕ) (other : Token) (bytes more : List ℕ) → Begins lexicon text other bytes more
+    → Reaches IsApart (found text) other bytes more
+reaches text other bytes more begins =
+    let lead = leads text other bytes more begins in
+    let size : length bytes ≡ length (spelling other) = ap (λ (l : List ℕ). length l) begins.spelled.1 in
+    record {
+      other = lead.token;
+      len = length (spelling lead.token);
+      is = ap (option_map measured) lead.is;
+      within = by_length lead.longer size;
+      same = λ equal. by_token lead.longer (sym size ∙ equal);
+      exact = λ apart. sym (size ∙ ap (λ (t : Token). length (spelling t)) (lead.only apart));
+    }
+  where
+    by_length : {t : Token} → (length (spelling other) < length (spelling t)) ⊎ (other ≡ t)
+        → length bytes ≡ length (spelling other) → length bytes ≤ length (spelling t)
+    by_length (inl less) size = omega (arith, less, size)
+    by_length (inr same) size = omega (arith, size, ap (λ (t : Token). length (spelling t)) same)
+
+    by_token : {t : Token} → (length (spelling other) < length (spelling t)) ⊎ (other ≡ t)
+        → length (spelling other) ≡ length (spelling t) → t ≡ other
+    by_token (inl less) equal = absurd (omega (arith, less, equal))
+    by_token (inr same) equal = sym same
+
+pub is_found : (text : List ℕ) (t : Token) (len : ℕ) → found text ≡ Some (t, len) → IsToken lexicon text t len
+is_found text t len is = at (first_token text) refl is
+  where
+    at : (o : Option Token) → first_token text ≡ o → option_map measured o ≡ Some (t, len) → IsToken lexicon text t len
+    at None first same = absurd (none-some (t, len) same)
+    at (Some token) first same =
+        let one = same_Some (measured token) (t, len) same in
+        let here = begins text token first in
+        let token_is : token ≡ t = ap (λ (p : Token × ℕ). p.0) one in
+        record {
+          bytes = spelling token;
+          rest = drop (length (spelling token)) text;
+          begins = subst (λ (u : Token). Begins lexicon text u (spelling token) (drop (length (spelling token)) text))
+              token_is here;
+          size = ap (λ (p : Token × ℕ). p.1) one;
+          some = omega (arith, ap (λ (p : Token × ℕ). p.1) one, spelling_some token here.spelled.0);
+        }

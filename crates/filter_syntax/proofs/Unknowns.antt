@@ -11,7 +11,7 @@ use Rattle.filter_syntax.specs.Tokens.{IsApart}
 use Rattle.filter_syntax.specs.Attributes.{by_attributes}
 use Rattle.wire.specs.Strings.{is_among}
 use Rattle.filter_syntax.specs.By.{Names, IsKnown, IsFirstUnknown, before_next}
-use Rattle.filter_syntax.proofs.Fronts.{front_passes, behind_run}
+use Rattle.grammars.specs.Runs.{run_passes, run_stops}
 use Rattle.filter_syntax.proofs.WordTokens.{name_byte}
 
 -- ---- a word at the start
@@ -22,7 +22,7 @@ word_first b tail starts is =
     ap is_word (take_while-cons is_name_byte b tail
     ∙ cond-true (is_name_byte b) (b ∷ take_while is_name_byte tail) [] is)
     ∙ and_from (begins_name b) (list_all is_name_byte (take_while is_name_byte tail)) starts
-    (front_passes is_name_byte tail)
+    (run_passes is_name_byte tail)
 
 pub word_front : (text : List ℕ) (len : ℕ) → 0 < length text → begins_name (get_or text 0 0) ≡ true
     → len ≡ prefix_len is_name_byte text
@@ -32,7 +32,7 @@ word_front (b ∷ tail) len some starts is =
     ap (λ (n : ℕ). is_word (take n (b ∷ tail))) is ∙ word_first b tail starts (name_byte b starts)
 
 pub word_ends : (text : List ℕ) (len : ℕ) → len ≡ prefix_len is_name_byte text → IsApart (drop len text)
-word_ends text len is = subst (λ (n : ℕ). IsApart (drop n text)) (sym is) (behind_run text)
+word_ends text len is = subst (λ (n : ℕ). IsApart (drop n text)) (sym is) (run_stops is_name_byte text)
 
 -- ---- the first unknown name
 

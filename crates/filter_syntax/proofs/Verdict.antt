@@ -1,5 +1,5 @@
 -- What reading the tokens of a text comes to says of it.
-use Rattle.std.specs.Prelude.{◌≡◌, ◌⊎◌, ℕ, zero, suc, ◌+◌, Bool, true, false, List, [], ◌∷◌, ◌++◌, cond, map}
+use Rattle.std.specs.Prelude.{◌≡◌, ◌⊎◌, ℕ, zero, suc, Bool, true, false, List, [], ◌∷◌, ◌++◌, cond, map}
 use Rattle.std.specs.Prelude.{Option, Some, None, refl}
 use Rattle.std.specs.List.{AllByRecursion}
 use Rattle.std.proofs.Common.{sym, ap, ◌∙◌, inl, inr, subst, true≢false}
@@ -16,7 +16,7 @@ use Rattle.filter_syntax.specs.declared.tree.RowKind.{RowKind}
 use Rattle.filter_syntax.specs.Token.{Token, And, Or}
 use Rattle.filter_syntax.specs.Token.{End, Bad, CanBeWritten}
 use Rattle.filter_syntax.specs.Tokens.{Placed, AreTokens}
-use Rattle.filter_syntax.specs.Tokens as tokens
+use Rattle.grammars.specs.Tokens as tokens
 use Rattle.filter_syntax.specs.Grammar.{Alternatives, Reads}
 use Rattle.filter_syntax.specs.Descent.{unit_at, alternatives_by, ends_text, root_at}
 use Rattle.filter_syntax.specs.Texts.{has_scopes, IsFilter, IsFilterText, HasTokens, SyntaxAt, ReadsAs, kind_of, limited_to}
@@ -46,13 +46,13 @@ shaped_more p ts fine h = record {
 }
 
 shaped_tokens : (at : ℕ) (text : List ℕ) (ts : List Placed) → AreTokens at text ts → Shaped ts
-shaped_tokens at _ _ (tokens.ended _) =
+shaped_tokens at _ _ (tokens.ends _) =
     record { good = []; last = (End, at); all = refl; fine = tt; ends = refl }
-shaped_tokens at _ ts (tokens.blank _ byte text _ space rest) = shaped_tokens (at + 1) text ts rest
-shaped_tokens at _ _ (tokens.stopped _ byte text other none) =
+shaped_tokens at _ ts (tokens.passes _ _ gap rest _ begins more) = shaped_tokens _ rest ts more
+shaped_tokens at _ _ (tokens.stops _ byte text quiet none) =
     record { good = []; last = (Bad, at); all = refl; fine = tt; ends = refl }
-shaped_tokens at _ _ (tokens.next _ text token rest ts long behind) =
-    shaped_more (token, at) ts long.begins.formed (shaped_tokens _ rest ts behind)
+shaped_tokens at _ _ (tokens.takes _ text token bytes rest ts quiet long behind) =
+    shaped_more (token, at) ts long.begins.spelled.0 (shaped_tokens _ rest ts behind)
 
 within_shaped : (most : ℕ) (good : List Placed) (last : Placed) → AllByRecursion Fine good → ends_text last.0 ≡ true
     → Shaped (limited_to most (good ++ (last ∷ [])))

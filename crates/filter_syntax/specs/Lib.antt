@@ -12,5 +12,4 @@ pub mod Limiting
 pub mod Compared
 pub mod Intermediate
 pub mod Shown
-pub mod Spaced
 pub mod Printing

@@ -1,6 +1,7 @@
 -- The tokens of filters, and the bytes that each of them is written with. Public statements name it.
 use Rattle.std.specs.Prelude.{ℕ, ◌^◌, ◌<◌, ◌≤◌, List, [], ◌∷◌, ◌++◌, IsTrue, codes, decimal}
 use Rattle.std.specs.List.{list_all}
+use Rattle.grammars.specs.Tokens as texts
 use Rattle.filter_syntax.specs.Spelling.{is_quotable, IsName}
 
 pub data Token : Type 0 where
@@ -50,8 +51,10 @@ CanBeWritten End = ⊥
 CanBeWritten Bad = ⊥
 CanBeWritten _ = Unit {0}
 
+-- the tokens with a space before each
+abbrev pub spaced : List Token → List ℕ
+spaced tokens = texts.spaced spelling tokens
+
 -- the tokens with one space between two
 abbrev pub written : List Token → List ℕ
-written [] = []
-written (token ∷ []) = spelling token
-written (token ∷ next ∷ tokens) = spelling token ++ (32 ∷ written (next ∷ tokens))
+written tokens = texts.written spelling tokens

@@ -2,11 +2,10 @@
 ghost use Rattle.std.specs.Prelude.{◌≡◌, [], ◌∷◌, ◌++◌, drop, string_bytes, IfOk, OnOk};
 ghost use Rattle.std.specs.List.{AllByRecursion};
 ghost use Rattle.std.specs.Str.Lossy.{utf8_lossy};
-ghost use Rattle.filter_syntax.specs.Token.{Token, And, Or, Equals, Name, CanBeWritten, spelling, written};
+ghost use Rattle.filter_syntax.specs.Token.{Token, And, Or, Equals, Name, CanBeWritten, spelling, spaced, written};
 ghost use Rattle.filter_syntax.specs.Grammar.{Alternatives, Conjunction};
 ghost use Rattle.filter_syntax.specs.Grammar as grammar;
 ghost use Rattle.filter_syntax.specs.Shown.{shown, tokens_at, is_enclosed, enclosed_if, value_token, scope_token};
-ghost use Rattle.filter_syntax.specs.Spaced.{spaced};
 
 use crate::{Cond, Filter, FilterValue, Text};
 use std::alloc::Global;

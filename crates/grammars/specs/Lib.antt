@@ -1,4 +1,9 @@
 pub mod Text
+pub mod Tokens
+pub mod Scanner
+pub mod Steps
+pub mod Written
+pub mod Runs
 pub mod Whole
 pub mod Once
 pub mod Outcome

@@ -1,4 +1,4 @@
--- The longest token and the comment at the front of a text.
+-- The comment at the front of a text.
 use Rattle.std.proofs.Common.{◌≡◌, ◌≤◌, ◌<◌, ◌+◌, ◌&&◌, ◌==◌, ℕ, suc, true, false}
 use Rattle.std.proofs.Common.{List, [], ◌∷◌, ◌++◌, inl, inr, length, take, drop, slice_index, refl, ap, sym, ◌∙◌}
 use Rattle.std.proofs.Common.{subst, arith, Option, Some, None}
@@ -6,71 +6,12 @@ use Rattle.std.specs.Prelude.{codes}
 use Rattle.std.specs.List.{prefix_len}
 use Rattle.std.proofs.lemmas.Bool.{cases_Bool, cond-true, cond-false, cond_both, and_parts, eqb-true}
 use Rattle.std.proofs.lemmas.Bool.Decides.{nat_tests}
-use Rattle.std.proofs.lemmas.List.{length-take-le, length-append, take_at, drop_at, take-append-drop, append_assoc}
+use Rattle.std.proofs.lemmas.List.{length-append, take_at, drop_at, take-append-drop, append_assoc}
 use Rattle.std.proofs.lemmas.List.Sums.{prefix_len-le-length}
-use Rattle.ivy_syntax.specs.declared.lexeme.Kind.{Kind}
-use Rattle.ivy_syntax.specs.Token.{Token}
-use Rattle.ivy_syntax.specs.Tokens.{Longest, NoToken, is_in_line, LineEnds, Closes, BeginsComment, line, block}
-use Rattle.ivy_syntax.specs.Lexeme.{token_of}
-use Rattle.ivy_syntax.specs.Cutting.{Cut, token_at, close_from, closed_len, comment_len}
-use Rattle.ivy_syntax.proofs.Runs.{StopsAt, run_passes, run_stops, run_over, run_ends}
-use Rattle.ivy_syntax.proofs.Fronts.{Sound, found_sound}
-use Rattle.ivy_syntax.proofs.Reach.{Reaches, reach}
-
--- ---- the longest token
-
-len_of : Cut → ℕ
-len_of None = 0
-len_of (Some cut) = cut.1
-
-same_len : (j k : Kind) (m n : ℕ) (found : Cut) → found ≡ Some (j, m) → found ≡ Some (k, n) → m ≡ n
-unfolding len_of
-same_len j k m n found e f = ap len_of (sym e ∙ f)
-
-pub some_none : (k : Kind) (n : ℕ) (found : Cut) → found ≡ Some (k, n) → found ≡ None → ⊥
-some_none k n found e f = let g : Some (k, n) ≡ None = sym e ∙ f in cc
-
-pub longest_at : (text : List ℕ) (k : Kind) (n : ℕ) → token_at text ≡ Some (k, n)
-    → Longest text (token_of k (take n text)) (take n text) (drop n text)
-longest_at text k n e =
-    let sound : Sound k n text = found_sound text k n e in
-    record {
-      begins = record { whole = sym (take-append-drop n text); spelled = sound.spelled; ends = sound.ends };
-      longest = λ other others more b.
-          (let r : Reaches text other others more = reach text other others more b in
-          let same : r.len ≡ n = same_len r.kind k r.len n (token_at text) r.found e in
-          omega (arith, r.within, same, length-take-le n text sound.within));
-    }
-
-pub none_at : (text : List ℕ) → token_at text ≡ None → NoToken text
-none_at text e token bytes rest b =
-    let r : Reaches text token bytes rest = reach text token bytes rest b in
-    some_none r.kind r.len (token_at text) r.found e
-
--- a longest token is the one that is found
-pub record Found (text : List ℕ) (t : Token) (bytes rest : List ℕ) : Type 0 where
-  pub kind : Kind
-  pub found : token_at text ≡ Some (kind, length bytes)
-  pub same : token_of kind bytes ≡ t
-  pub behind : drop (length bytes) text ≡ rest
-  pub some : 0 < length bytes
-  pub within : length bytes ≤ length text
-
-pub same_at : (text : List ℕ) (t : Token) (bytes rest : List ℕ) → Longest text t bytes rest → Found text t bytes rest
-same_at text t bytes rest h =
-    let r : Reaches text t bytes rest = reach text t bytes rest h.begins in
-    let sound : Sound r.kind r.len text = found_sound text r.kind r.len r.found in
-    let most : length (take r.len text) ≤ length bytes
-    = h.longest _ _ _ (longest_at text r.kind r.len r.found).begins in
-    let len : length bytes ≡ r.len = omega (arith, r.within, length-take-le r.len text sound.within) in
-    record {
-      kind = r.kind;
-      found = r.found ∙ ap (λ n. Some (r.kind, n)) (sym len);
-      same = r.same len;
-      behind = ap (λ all. drop (length bytes) all) h.begins.whole ∙ drop_at bytes rest (length bytes) refl;
-      some = omega (arith, sound.some);
-      within = omega (arith, sound.within);
-    }
+use Rattle.ivy_syntax.specs.Tokens.{is_in_line, LineEnds, Closes, BeginsComment, line, block}
+use Rattle.ivy_syntax.specs.Cutting.{close_from, closed_len, comment_len}
+use Rattle.grammars.specs.Tokens.{StopsAt}
+use Rattle.grammars.specs.Runs.{run_passes, run_stops, run_over, run_ends}
 
 -- ---- the first `*/`
 

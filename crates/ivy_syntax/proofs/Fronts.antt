@@ -30,7 +30,8 @@ use Rattle.wire.specs.Spelling.{greatest}
 use Rattle.ivy_syntax.specs.Cutting.{number_at, hex_at, quoted_at, pair_of}
 use Rattle.ivy_syntax.specs.Cutting.{symbol_of}
 use Rattle.ivy_syntax.specs.Cutting.{operator_of, single_cut, sign_cut, sign_at, token_at}
-use Rattle.ivy_syntax.proofs.Runs.{StopsAt, prefix_yes, run_passes, run_stops, all_front}
+use Rattle.grammars.specs.Tokens.{StopsAt}
+use Rattle.grammars.specs.Runs.{prefix_yes, run_passes, run_stops, all_front}
 
 -- ---- keywords
 

@@ -1,5 +1,4 @@
 pub mod Cuts
-pub mod Runs
 pub mod Fronts
 pub mod Reach
 pub mod Comments

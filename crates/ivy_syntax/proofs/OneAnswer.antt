@@ -32,7 +32,7 @@ use Rattle.ivy_syntax.proofs.CountedLimits.{kinds_of, passes_there, none_front, 
 -- ---- one list of tokens, and one tree
 
 one_tokens : (text : List ℕ) (a b : List Placed) → AreTokens 0 text a → AreTokens 0 text b → a ≡ b
-one_tokens text a b h k = let one = one_reading text in sym (one.2 a h) ∙ one.2 b k
+one_tokens text a b h k = let one = one_reading 0 text in sym (one.2 a h) ∙ one.2 b k
 
 -- tokens are alike to themselves
 all_alike : (used rest u : List Placed) → u ≡ used ++ rest → Alike used rest (u ++ [])

@@ -20,7 +20,8 @@ use Rattle.ivy_syntax.specs.declared.lexeme.Kind.{Kind}
 use Rattle.ivy_syntax.specs.declared.lexeme.Kind.TheVariants as kind
 use Rattle.ivy_syntax.specs.Token.{Token, Word, Sign, Operation, Name, Number, Hex, Quoted, End, Bad}
 use Rattle.ivy_syntax.specs.Token.{letters, sign, mark, begins_name, goes_on, is_quotable, IsName, StandFor, Spells}
-use Rattle.ivy_syntax.specs.Tokens.{is_blank, EndsBefore, Begins}
+use Rattle.ivy_syntax.specs.Tokens.{is_blank, EndsBefore, lexicon}
+use Rattle.grammars.specs.Tokens.{Begins, StopsAt}
 use Rattle.ivy_syntax.specs.Lexeme.{value_of, token_of}
 use Rattle.ivy_syntax.specs.Cutting.{keyword_of, word_kind, word_at}
 use Rattle.wire.specs.Decimal.{decimal_within, decimal_again, digits_written}
@@ -28,7 +29,7 @@ use Rattle.wire.specs.Spelling.{greatest}
 use Rattle.ivy_syntax.specs.Cutting.{number_at, hex_at, quoted_at, pair_of}
 use Rattle.ivy_syntax.specs.Cutting.{symbol_of}
 use Rattle.ivy_syntax.specs.Cutting.{operator_of, single_cut, sign_cut, sign_at, token_at}
-use Rattle.ivy_syntax.proofs.Runs.{StopsAt, prefix_no, run_over, run_ends}
+use Rattle.grammars.specs.Runs.{prefix_no, run_over, run_ends}
 use Rattle.ivy_syntax.proofs.Fronts.{name_goes_on, digit_goes_on, keyword_is, keyword_found, IsWordText, letters_are}
 use Rattle.ivy_syntax.proofs.Fronts.{quoted_value, at_index, pair_fits}
 
@@ -335,6 +336,6 @@ spelled_reach (Quoted text) bytes rest h e = subst (Reached rest (Quoted text)) 
 spelled_reach End bytes rest h e = absurd h
 spelled_reach Bad bytes rest h e = absurd h
 
-pub reach : (text : List ℕ) (t : Token) (bytes rest : List ℕ) → Begins text t bytes rest → Reaches text t bytes rest
+pub reach : (text : List ℕ) (t : Token) (bytes rest : List ℕ) → Begins lexicon text t bytes rest → Reaches text t bytes rest
 reach text t bytes rest h =
     subst (λ text. Reaches text t bytes rest) (sym h.whole) (spelled_reach t bytes rest h.spelled h.ends)

@@ -11,8 +11,9 @@ use Rattle.ivy_syntax.specs.declared.lexeme.Operator.{Operator}
 use Rattle.ivy_syntax.specs.declared.lexeme.Operator.TheVariants as operator
 use Rattle.ivy_syntax.specs.Token.{Token, Word, Sign, Operation, Name, Number, Hex, Quoted, End, Bad}
 use Rattle.ivy_syntax.specs.Token.{letters, sign, mark, StandFor, Spells}
-use Rattle.ivy_syntax.specs.Tokens.{Placed, AreTokens, ends, passes_blank, passes_comment, takes, stops, BeginsComment}
-use Rattle.ivy_syntax.specs.Tokens.{line, block}
+use Rattle.ivy_syntax.specs.Tokens.{Placed, AreTokens, BeginsGap, blank, comment}
+use Rattle.ivy_syntax.specs.Tokens.{BeginsComment, line, block}
+use Rattle.grammars.specs.Tokens.{ends, passes, takes, stops}
 use Rattle.ivy_syntax.specs.Sizes.{SizeLaws}
 use Rattle.ivy_syntax.proofs.TreeSizes.{literal_size, literals_in, literals_first, literals_append, file_holds}
 
@@ -70,13 +71,17 @@ spelled_takes Bad bytes h = absurd h
 -- ---- texts
 
 -- what stands after a comment is no longer
-comment_within : (text comment rest : List ℕ) → BeginsComment text comment rest → length rest ≤ length text
-comment_within text comment rest (line body whole is all behind) =
-    omega (arith, ap length whole, length-append comment rest)
-comment_within text comment rest (block body more whole closes is) =
+comment_within : (text passed rest : List ℕ) → BeginsComment text passed rest → length rest ≤ length text
+comment_within text passed rest (line body whole is all behind) =
+    omega (arith, ap length whole, length-append passed rest)
+comment_within text passed rest (block body more whole closes is) =
     let inside = ap length closes.whole in
     let parts = length-append body (codes "*/" ++ rest) in
     omega (arith, ap length whole, inside, parts)
+
+gap_within : (text gap rest : List ℕ) → BeginsGap text gap rest → length rest ≤ length text
+gap_within text gap rest (blank b one whole is) = omega (arith, ap length whole)
+gap_within text gap rest (comment begins) = comment_within text gap rest begins
 
 -- There is at most one token more than bytes, and the literals of the tokens have no more bytes than there are.
 record Fits (text : List ℕ) (tokens : List Placed) : Type 0 where
@@ -85,11 +90,9 @@ record Fits (text : List ℕ) (tokens : List Placed) : Type 0 where
 
 tokens_fit : (at : ℕ) (text : List ℕ) (tokens : List Placed) → AreTokens at text tokens → Fits text tokens
 tokens_fit _ _ _ (ends at) = record { count = omega arith; literals = omega arith }
-tokens_fit _ _ _ (passes_blank at b rest tokens is h) =
-    let fits = tokens_fit (at + 1) rest tokens h in record { count = omega arith; literals = omega arith }
-tokens_fit _ _ _ (passes_comment at text comment rest tokens begins h) =
-    let fits = tokens_fit (at + length comment) rest tokens h in
-    let within = comment_within text comment rest begins in
+tokens_fit _ _ _ (passes at text gap rest tokens begins h) =
+    let fits = tokens_fit (at + length gap) rest tokens h in
+    let within = gap_within text gap rest begins in
     record { count = omega arith; literals = omega arith }
 tokens_fit _ _ _ (takes at text token bytes rest tokens bare longest h) =
     let fits = tokens_fit (at + length bytes) rest tokens h in

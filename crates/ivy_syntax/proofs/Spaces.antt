@@ -6,14 +6,14 @@ use Rattle.std.specs.Prelude.{codes, nat_lt}
 use Rattle.std.specs.Char.{is_ascii_hexdigit}
 use Rattle.std.specs.List.{list_all}
 use Rattle.std.specs.Str.{IsAscii, IsUtf8}
-use Rattle.std.proofs.lemmas.Bool.{and_parts}
 use Rattle.std.proofs.lemmas.Bool.Decides.{nat_tests}
 use Rattle.std.proofs.lemmas.Grind.{flat_map-append}
-use Rattle.std.proofs.lemmas.List.{append-nil}
 use Rattle.std.proofs.Math.Seq.{take-length}
 use Rattle.std.proofs.lemmas.Str.{IsAscii-append, IsUtf8-from_ascii}
-use Rattle.std.proofs.lemmas.Str.Ascii.{IsAscii-nil, IsAscii-cons}
+use Rattle.std.proofs.lemmas.Str.Ascii.{IsAscii-cons}
 use Rattle.std.proofs.lemmas.Fmt.{IsAscii-decimal}
+use Rattle.grammars.specs.Written.{all_ascii, written_ascii}
+use Rattle.grammars.specs.Tokens as tokens
 use Rattle.ivy_syntax.specs.declared.lexeme.Keyword.{Keyword}
 use Rattle.ivy_syntax.specs.declared.lexeme.Keyword.TheVariants as keyword
 use Rattle.ivy_syntax.specs.declared.lexeme.Symbol.{Symbol}
@@ -34,10 +34,7 @@ added text a b =
     ∙ ap (λ (l : List ℕ). text ++ l) (sym (flat_map-append (λ t. 32 ∷ spelling t) a b))
 
 ended : (t : Token) (ts : List Token) → spaced (t ∷ ts) ++ (10 ∷ []) ≡ 32 ∷ written (t ∷ ts)
-ended t [] = ap (λ (l : List ℕ). 32 ∷ (l ++ (10 ∷ []))) (append-nil (spelling t))
-ended t (u ∷ ts) =
-    ap (λ (l : List ℕ). 32 ∷ l) (append_assoc (spelling t) (spaced (u ∷ ts)) (10 ∷ []))
-    ∙ ap (λ (l : List ℕ). 32 ∷ (spelling t ++ l)) (ended u ts)
+ended t ts = refl
 
 -- Behind the first space stands what is written.
 pub behind_first : (text : List ℕ) (ts : List Token) → text ≡ spaced ts ++ (10 ∷ []) → get_or text 0 0 ≡ 32
@@ -60,13 +57,6 @@ none_before text (t ∷ ts) is bare = absurd (bare (ap (λ (l : List ℕ). get_o
 
 abbrev is_low : ℕ → Bool
 is_low b = nat_lt b 128
-
-all_ascii : (test : ℕ → Bool) → ((b : ℕ) → test b ≡ true → b < 128) → (bs : List ℕ) → list_all test bs ≡ true
-    → IsAscii bs
-all_ascii test low [] are = IsAscii-nil
-all_ascii test low (b ∷ bs) are =
-    let parts = and_parts (test b) (list_all test bs) are in
-    IsAscii-cons b bs (low b parts.0) (all_ascii test low bs parts.1)
 
 low_is : (b : ℕ) → is_low b ≡ true → b < 128
 low_is b is = grind (arith, nat_tests)
@@ -156,13 +146,10 @@ spelling_ascii (Quoted text) bytes h =
 spelling_ascii End bytes h = absurd h
 spelling_ascii Bad bytes h = absurd h
 
-written_ascii : (ts : List Token) → CanBeWritten ts → IsAscii (written ts)
-written_ascii [] can = low_ascii (10 ∷ []) refl
-written_ascii (t ∷ []) can =
-    IsAscii-append (spelling t) (10 ∷ []) (spelling_ascii t can.0.0 can.0.1) (low_ascii (10 ∷ []) refl)
-written_ascii (t ∷ u ∷ ts) can =
-    IsAscii-append (spelling t) (32 ∷ written (u ∷ ts)) (spelling_ascii t can.0.0 can.0.1)
-    (IsAscii-cons 32 (written (u ∷ ts)) (omega arith) (written_ascii (u ∷ ts) can.1))
+abbrev CanSpell : Token → Type 0
+CanSpell t = (bytes : List ℕ) × Spells t bytes
 
 pub written_text : (ts : List Token) → CanBeWritten ts → IsUtf8 (written ts)
-written_text ts can = IsUtf8-from_ascii (written ts) (written_ascii ts can)
+written_text ts can = IsUtf8-from_ascii (written ts)
+    (IsAscii-append (tokens.written spelling ts) (10 ∷ [])
+    (written_ascii spelling CanSpell (λ t can. spelling_ascii t can.0 can.1) ts can) (low_ascii (10 ∷ []) refl))

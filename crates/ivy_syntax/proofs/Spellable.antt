@@ -4,7 +4,8 @@ use Rattle.std.proofs.Common.{ap, subst}
 use Rattle.grammars.specs.Places.{kinds}
 use Rattle.ivy_syntax.specs.declared.tree.Source.{Source}
 use Rattle.ivy_syntax.specs.Token.{End, Spells}
-use Rattle.ivy_syntax.specs.Tokens.{Placed, CanBeWritten, AreTokens, ends, passes_blank, passes_comment, takes, stops}
+use Rattle.ivy_syntax.specs.Tokens.{Placed, CanBeWritten, AreTokens}
+use Rattle.grammars.specs.Tokens.{ends, passes, takes, stops}
 use Rattle.ivy_syntax.specs.Texts.{ReadsAs}
 use Rattle.ivy_syntax.specs.Shown.{shown}
 use Rattle.ivy_syntax.proofs.Kept.{all_of_kept}
@@ -29,9 +30,7 @@ front_written t (u ∷ ts) one all = (one, all)
 -- The tokens of a text can be written, but for the last, which is its end or a byte with which none begins.
 tokens_written : (at : ℕ) (text : List ℕ) (ts : List Placed) → AreTokens at text ts → CanBeWritten (kinds (front ts))
 tokens_written _ _ _ (ends at) = tt
-tokens_written _ _ ts (passes_blank at b rest tokens blank h) = tokens_written (at + 1) rest ts h
-tokens_written _ _ ts (passes_comment at text comment rest tokens begins h) =
-    tokens_written (at + length comment) rest ts h
+tokens_written _ _ ts (passes at text gap rest tokens begins h) = tokens_written (at + length gap) rest ts h
 tokens_written _ _ _ (takes at text token bytes rest tokens none longest h) =
     front_written (token, at) tokens (bytes, longest.begins.spelled)
     (tokens_written (at + length bytes) rest tokens h)

@@ -3,7 +3,7 @@ use Rattle.std.proofs.Common.{◌≡◌, ◌≤◌, ◌<◌, ◌+◌, ◌-◌, �
 use Rattle.std.proofs.Common.{List, [], ◌∷◌, ◌++◌, inl, inr, length, take, drop, subst, slice_index, refl, ap, sym, ◌∙◌}
 use Rattle.std.proofs.Common.{arith}
 use Rattle.std.proofs.lemmas.Bool.{cases_Bool, cond-true, cond-false, eqb-true}
-use Rattle.std.proofs.lemmas.List.{length-drop, drop-drop, append_assoc, take_rest}
+use Rattle.std.proofs.lemmas.List.{drop-drop, take_rest}
 use Rattle.ivy_syntax.specs.declared.lexeme.Kind.{Kind}
 use Rattle.ivy_syntax.specs.declared.lexeme.Front.{Front}
 use Rattle.ivy_syntax.specs.declared.lexeme.Front.TheVariants as front
@@ -12,8 +12,13 @@ use Rattle.ivy_syntax.specs.Token.{End, Bad}
 use Rattle.ivy_syntax.specs.Tokens.{Placed, is_blank, is_in_line}
 use Rattle.ivy_syntax.specs.Lexeme.{token_of}
 use Rattle.ivy_syntax.specs.Cutting.{close_from, close_of, closed_len, begins_block, comment_len, front_at}
-use Rattle.ivy_syntax.specs.Cutting.{TakesWithin, cuts}
-use Rattle.ivy_syntax.proofs.Cuts.{none_behind, cuts_blank, cuts_token, cuts_wrong, cuts_end}
+use Rattle.ivy_syntax.specs.Cutting.{Cut, TakesWithin, token_at, front_of_cut, gap_len}
+use Rattle.grammars.specs.Steps.{ReadUpTo, gap_step, token_step, bad_step, end_step}
+use Rattle.ivy_syntax.specs.Tokens.{lexicon, AreTokens}
+use Rattle.std.specs.Option.{option_map}
+use Rattle.ivy_syntax.proofs.Reach.{BlankFollows}
+use Rattle.ivy_syntax.proofs.Readings.{scanner, token_cut}
+use Rattle.ivy_syntax.proofs.Cuts.{none_behind}
 
 -- the text from a place on, as a slice gives it
 abbrev tail : List ℕ → ℕ → List ℕ
@@ -26,37 +31,68 @@ within_there : (text : List ℕ) (at : ℕ) (f : Front) → TakesWithin f (lengt
     → TakesWithin f (length (drop at text))
 within_there text at f h = subst (λ r. TakesWithin f (length r)) (take_rest text at) h
 
-module _ (text : List ℕ) (at : ℕ) (found : List Placed) (whole : found ++ cuts at (drop at text) ≡ cuts 0 text) where
-  pub step_blank : (len : ℕ) → front.Blank len ≡ front_at (tail text at)
-      → TakesWithin (front.Blank len) (length (tail text at))
-      → found ++ cuts (at + len) (drop (at + len) text) ≡ cuts 0 text
-  step_blank len e h =
-      let e' : front_at (drop at text) ≡ front.Blank len = front_there text at (front.Blank len) e in
-      let h' : TakesWithin (front.Blank len) (length (drop at text)) = within_there text at (front.Blank len) h in
-      ap (λ r. found ++ cuts (at + len) r) (sym (drop-drop len at text))
-      ∙ ap (λ ts. found ++ ts) (sym (cuts_blank at len (drop at text) e' h'.0 h'.1)) ∙ whole
+-- ---- what a front says
+
+no_blank : (cut : Cut) (len : ℕ) → front_of_cut cut ≡ front.Blank len → ⊥
+no_blank None len e = cc
+no_blank (Some cut) len e = cc
+
+the_token : (cut : Cut) (k : Kind) (len : ℕ) → front_of_cut cut ≡ front.Token k len → cut ≡ Some (k, len)
+the_token None k len e = cc
+the_token (Some (kind, n)) k len e = cc
+
+no_cut : (cut : Cut) → front_of_cut cut ≡ front.Wrong → cut ≡ None
+no_cut None e = refl
+no_cut (Some cut) e = cc
+
+of_blank : (text : List ℕ) (len : ℕ) → front_at text ≡ front.Blank len → gap_len text ≡ len
+unfolding front_at
+of_blank text len e = elim (cases_Bool (gap_len text == 0)) [
+  | inl none ↦ absurd (no_blank (token_at text) len (sym (cond-true _ _ _ none) ∙ e))
+  | inr some ↦ (let same : front.Blank (gap_len text) ≡ front.Blank len = sym (cond-false _ _ _ some) ∙ e in cc)
+]
+
+of_token : (text : List ℕ) (k : Kind) (len : ℕ) → front_at text ≡ front.Token k len
+    → (gap_len text ≡ 0) × (token_at text ≡ Some (k, len))
+unfolding front_at
+of_token text k len e = elim (cases_Bool (gap_len text == 0)) [
+  | inl none ↦ (eqb-true _ _ none, the_token (token_at text) k len (sym (cond-true _ _ _ none) ∙ e))
+  | inr some ↦ (let no : front.Blank (gap_len text) ≡ front.Token k len = sym (cond-false _ _ _ some) ∙ e in cc)
+]
+
+of_wrong : (text : List ℕ) → front_at text ≡ front.Wrong → (gap_len text ≡ 0) × (token_at text ≡ None)
+unfolding front_at
+of_wrong text e = elim (cases_Bool (gap_len text == 0)) [
+  | inl none ↦ (eqb-true _ _ none, no_cut (token_at text) (sym (cond-true _ _ _ none) ∙ e))
+  | inr some ↦ (let no : front.Blank (gap_len text) ≡ front.Wrong = sym (cond-false _ _ _ some) ∙ e in cc)
+]
+
+module _ (text : List ℕ) (at : ℕ) (found : List Placed) (onto : ReadUpTo lexicon text at found) where
+  pub step_blank : (len : ℕ) → front.Blank len ≡ front_at (tail text at) → 0 < len
+      → ReadUpTo lexicon text (at + len) found
+  step_blank len e some =
+      let same : gap_len (drop at text) ≡ len = of_blank (drop at text) len (front_there text at (front.Blank len) e) in
+      subst (λ (n : ℕ). ReadUpTo lexicon text (at + n) found) same
+      (gap_step lexicon BlankFollows scanner text at found onto (omega (arith, same, some)))
 
   pub step_token : (k : Kind) (len : ℕ) → front.Token k len ≡ front_at (tail text at)
-      → TakesWithin (front.Token k len) (length (tail text at))
-      → (found ++ ((token_of k (take len (tail text at)), at) ∷ [])) ++ cuts (at + len) (drop (at + len) text)
-      ≡ cuts 0 text
-  step_token k len e h =
-      let e' : front_at (drop at text) ≡ front.Token k len = front_there text at (front.Token k len) e in
-      let h' : TakesWithin (front.Token k len) (length (drop at text)) = within_there text at (front.Token k len) h in
-      let token : List ℕ → Placed = λ r. (token_of k (take len r), at) in
-      append_assoc found (token (tail text at) ∷ []) (cuts (at + len) (drop (at + len) text))
-      ∙ ap (λ r. found ++ (token r ∷ cuts (at + len) (drop (at + len) text))) (take_rest text at)
-      ∙ ap (λ r. found ++ (token (drop at text) ∷ cuts (at + len) r)) (sym (drop-drop len at text))
-      ∙ ap (λ ts. found ++ ts) (sym (cuts_token at len k (drop at text) e' h'.0 h'.1)) ∙ whole
+      → ReadUpTo lexicon text (at + len) (found ++ ((token_of k (take len (tail text at)), at) ∷ []))
+  step_token k len e =
+      let is = of_token (drop at text) k len (front_there text at (front.Token k len) e) in
+      subst (λ (r : List ℕ). ReadUpTo lexicon text (at + len) (found ++ ((token_of k (take len r), at) ∷ [])))
+      (sym (take_rest text at))
+      (token_step lexicon BlankFollows scanner text at found onto (token_of k (take len (drop at text))) len is.0
+      (ap (option_map (token_cut (drop at text))) is.1))
 
   pub step_wrong : front.Wrong ≡ front_at (tail text at) → at < length text
-      → found ++ ((Bad, at) ∷ []) ≡ cuts 0 text
+      → AreTokens 0 text (found ++ ((Bad, at) ∷ []))
   step_wrong e h =
-      let e' : front_at (drop at text) ≡ front.Wrong = front_there text at front.Wrong e in
-      ap (λ ts. found ++ ts) (sym (cuts_wrong at (drop at text) e' (omega (arith, length-drop at text)))) ∙ whole
+      let is = of_wrong (drop at text) (front_there text at front.Wrong e) in
+      bad_step lexicon BlankFollows scanner text at found onto h is.0
+      (ap (option_map (token_cut (drop at text))) is.1)
 
-  pub step_end : length text ≤ at → found ++ ((End, at) ∷ []) ≡ cuts 0 text
-  step_end h = ap (λ ts. found ++ ts) (sym (cuts_end at (drop at text) (omega (arith, length-drop at text)))) ∙ whole
+  pub step_end : length text ≤ at → AreTokens 0 text (found ++ ((End, at) ∷ []))
+  step_end h = end_step lexicon BlankFollows scanner text at found onto h
 
 -- ---- where no `*/` follows
 
@@ -72,17 +108,14 @@ none_further text at len e =
     ap (λ n. close_from 0 (drop n text)) (sym add) ∙ ap (λ r. close_from 0 r) (sym (drop-drop len (at + 1) text))
     ∙ none_behind len (drop (at + 1) text) e
 
+no_gap_comment : (rest : List ℕ) → gap_len rest ≡ 0 → comment_len rest ≡ 0
+no_gap_comment rest none = elim (cases_Bool (is_blank (slice_index rest 0))) [
+  | inl t ↦ absurd (omega (arith, none, cond-true {A = ℕ} (is_blank (slice_index rest 0)) 1 (comment_len rest) t))
+  | inr f ↦ sym (cond-false {A = ℕ} (is_blank (slice_index rest 0)) 1 (comment_len rest) f) ∙ none
+]
+
 front_token_len : (k : Kind) (n : ℕ) (rest : List ℕ) → front_at rest ≡ front.Token k n → comment_len rest ≡ 0
-unfolding front_at
-front_token_len k n rest e =
-    elim (cases_Bool (is_blank (slice_index rest 0))) [
-      | inl t ↦ (let no : front.Blank 1 ≡ front.Token k n = sym (cond-true _ _ _ t) ∙ e in cc)
-      | inr f ↦ elim (cases_Bool (comment_len rest == 0)) [
-        | inl u ↦ eqb-true _ _ u
-        | inr g ↦ (let no : front.Blank (comment_len rest) ≡ front.Token k n
-            = sym (cond-false _ _ _ g) ∙ sym (cond-false _ _ _ f) ∙ e in cc)
-      ]
-    ]
+front_token_len k n rest e = no_gap_comment rest (of_token rest k n e).0
 
 no_place : (found : Option ℕ) → closed_len found ≡ 0 → found ≡ None
 no_place None e = refl

@@ -66,7 +66,7 @@ module _ (text : List ℕ) (ts : List Placed) (are : AreTokens 0 text ts) (found
 some_answer : (text : List ℕ) → (answer : Result Source ParseFault) × AnswersText text answer
 unfolding HasAnswer
 some_answer text =
-    let read = one_reading text in
+    let read = one_reading 0 text in
     let found = first_passed (kinds_of read.0) in
     some_by text read.0 read.1 found.0 found.1 (file_at 32 read.0) (told text read.0 read.1)
 

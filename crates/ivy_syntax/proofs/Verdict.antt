@@ -1,5 +1,5 @@
 -- What reading the tokens of a text comes to says of it.
-use Rattle.std.specs.Prelude.{◌≡◌, ℕ, ◌+◌, true, false, List, [], ◌∷◌, ◌++◌, length, refl}
+use Rattle.std.specs.Prelude.{◌≡◌, ℕ, true, false, List, [], ◌∷◌, ◌++◌, length, refl}
 use Rattle.std.specs.List.{AllByRecursion}
 use Rattle.std.proofs.Common.{sym, ap, ◌∙◌, subst, true≢false, arith}
 use Rattle.std.proofs.lemmas.Option.{same_Some}
@@ -15,8 +15,9 @@ use Rattle.grammars.specs.Whole as whole
 use Rattle.ivy_syntax.specs.declared.tree.Source.{Source}
 use Rattle.ivy_syntax.specs.declared.lexeme.Keyword.TheVariants as keyword
 use Rattle.ivy_syntax.specs.Token.{Token, End, Bad}
-use Rattle.ivy_syntax.specs.Tokens.{Placed, AreTokens, ends, passes_blank, passes_comment, takes, written, CanBeWritten}
-use Rattle.ivy_syntax.specs.Tokens as tokens
+use Rattle.ivy_syntax.specs.Tokens.{Placed, AreTokens, written, CanBeWritten}
+use Rattle.grammars.specs.Tokens.{ends, passes, takes}
+use Rattle.grammars.specs.Tokens as tokens
 use Rattle.ivy_syntax.specs.Grammar.{File}
 use Rattle.ivy_syntax.specs.Descent.{file_at}
 use Rattle.ivy_syntax.specs.Texts.{IsSource, IsAnySource, BeginsSource, BeginsWithin}
@@ -52,8 +53,7 @@ shaped_more t ts fine h = record {
 
 pub shaped : (at : ℕ) (text : List ℕ) (ts : List Placed) → AreTokens at text ts → Shaped ts
 shaped at _ _ (ends _) = record { good = []; last = (End, at); all = refl; fine = tt; stop = refl }
-shaped at _ ts (passes_blank _ b rest _ blank h) = shaped (at + 1) rest ts h
-shaped at text ts (passes_comment _ _ comment rest _ begins h) = shaped _ rest ts h
+shaped at _ ts (passes _ _ gap rest _ begins h) = shaped _ rest ts h
 shaped at text _ (takes _ _ token bytes rest ts none long h) =
     shaped_more (token, at) ts (bytes, long.begins.spelled) (shaped _ rest ts h)
 shaped at _ _ (tokens.stops _ b rest solid none) =

@@ -1,7 +1,7 @@
 -- The text that writes tokens has these tokens.
 use Rattle.std.proofs.Common.{◌≡◌, ◌<◌, ◌+◌, ◌*◌, ◌/◌, ◌%◌, ◌^◌, ◌==◌, ℕ, true, false}
-use Rattle.std.proofs.Common.{List, [], ◌∷◌, ◌++◌, length, take, drop, refl, ap, sym, ◌∙◌, subst}
-use Rattle.std.proofs.Common.{arith, map}
+use Rattle.std.proofs.Common.{List, [], ◌∷◌, ◌++◌, length, refl, ap, sym, ◌∙◌, subst}
+use Rattle.std.proofs.Common.{arith}
 use Rattle.std.specs.Prelude.{decimal}
 use Rattle.std.specs.Fmt.{digit_glyph}
 use Rattle.std.specs.List.{list_all}
@@ -10,7 +10,6 @@ use Rattle.std.specs.Char.{is_ascii_digit}
 use Rattle.std.proofs.lemmas.Fmt.{decimal_nonempty}
 use Rattle.std.proofs.lemmas.Bool.{and_parts}
 use Rattle.std.proofs.lemmas.Bool.Decides.{nat_tests}
-use Rattle.std.proofs.lemmas.List.{take_at, drop_at}
 use Rattle.ivy_syntax.specs.declared.lexeme.Keyword.{Keyword}
 use Rattle.ivy_syntax.specs.declared.lexeme.Keyword.TheVariants as keyword
 use Rattle.ivy_syntax.specs.declared.lexeme.Symbol.{Symbol}
@@ -19,14 +18,19 @@ use Rattle.ivy_syntax.specs.declared.lexeme.Operator.{Operator}
 use Rattle.ivy_syntax.specs.declared.lexeme.Operator.TheVariants as operator
 use Rattle.ivy_syntax.specs.Token.{Token, Word, Sign, Operation, Name, Number, Hex, Quoted, End, Bad}
 use Rattle.ivy_syntax.specs.Token.{letters, sign, mark, begins_name, IsName, StandFor, Spells}
-use Rattle.ivy_syntax.specs.Tokens.{EndsBefore, Longest, is_blank, Placed, AreTokens, ends, passes_blank, takes}
-use Rattle.ivy_syntax.specs.Tokens.{digits_of, spelling, written, CanBeWritten, IsReadBack}
-use Rattle.ivy_syntax.specs.Lexeme.{token_of}
-use Rattle.ivy_syntax.specs.Cutting.{comment_len}
+use Rattle.std.proofs.lemmas.Bool.{or_cases, eqb-true}
+use Rattle.std.proofs.Common.{inl, inr, None}
+use Rattle.std.proofs.lemmas.Option.{none-some}
+use Rattle.grammars.specs.Tokens.{NoGap, ends, passes}
+use Rattle.grammars.specs.Scanner.{longest_before}
+use Rattle.grammars.specs.Written.{StandsBefore, SpaceStands, written_read}
+use Rattle.ivy_syntax.specs.Tokens.{EndsBefore, is_blank, blank, comment, lexicon}
+use Rattle.ivy_syntax.specs.Tokens.{digits_of, spelling, IsReadBack}
+use Rattle.ivy_syntax.specs.Cutting.{comment_len, token_at, sign_at, pair_of, symbol_of, operator_of}
 use Rattle.ivy_syntax.proofs.Fronts.{hex_below}
-use Rattle.ivy_syntax.proofs.Reach.{Reaches, reach, decimal_all}
-use Rattle.ivy_syntax.proofs.Comments.{longest_at}
-use Rattle.ivy_syntax.proofs.Readings.{no_comment}
+use Rattle.ivy_syntax.proofs.Reach.{BlankFollows, reach, decimal_all}
+use Rattle.ivy_syntax.proofs.Comments.{comment_found}
+use Rattle.ivy_syntax.proofs.Readings.{scanner}
 
 -- ---- what can be spelled is spelled so
 
@@ -153,6 +157,25 @@ quiet (Quoted text) bytes b more h e = subst (Quiet b more) (sym h.0) refl
 quiet End bytes b more h e = absurd h
 quiet Bad bytes b more h e = absurd h
 
+-- no token begins with a blank
+
+blank_at : (c b : ℕ) (rest : List ℕ) → (b == c) ≡ true → token_at (c ∷ rest) ≡ None → token_at (b ∷ rest) ≡ None
+blank_at c b rest e h = ap (λ x. token_at (x ∷ rest)) (eqb-true b c e) ∙ h
+
+blank_none : (b : ℕ) (rest : List ℕ) → is_blank b ≡ true → token_at (b ∷ rest) ≡ None
+unfolding token_at sign_at pair_of symbol_of operator_of
+blank_none b rest e =
+    elim (or_cases _ _ e) [
+      | inr cr ↦ blank_at 13 b rest cr refl
+      | inl more ↦ elim (or_cases _ _ more) [
+        | inr lf ↦ blank_at 10 b rest lf refl
+        | inl others ↦ elim (or_cases _ _ others) [
+          | inl space ↦ blank_at 32 b rest space refl
+          | inr tab ↦ blank_at 9 b rest tab refl
+        ]
+      ]
+    ]
+
 -- ---- a token and a blank
 
 ends_at_blank : (t : Token) (b : ℕ) (more : List ℕ) → is_blank b ≡ true → EndsBefore t (b ∷ more)
@@ -166,58 +189,39 @@ ends_at_blank (Quoted text) b more e = tt
 ends_at_blank End b more e = tt
 ends_at_blank Bad b more e = tt
 
-longest_before : (t : Token) (bytes : List ℕ) (b : ℕ) (more : List ℕ) → Spells t bytes → is_blank b ≡ true
-    → Longest (bytes ++ (b ∷ more)) t bytes (b ∷ more)
-longest_before t bytes b more h e =
-    let text : List ℕ = bytes ++ (b ∷ more) in
-    let r : Reaches text t bytes (b ∷ more)
-    = reach text t bytes (b ∷ more) (record { whole = refl; spelled = h; ends = ends_at_blank t b more e }) in
-    let len : r.len ≡ length bytes = r.exact e in
-    let long : Longest text (token_of r.kind (take r.len text)) (take r.len text) (drop r.len text)
-    = longest_at text r.kind r.len r.found in
-    let front : take r.len text ≡ bytes = ap (λ n. take n text) len ∙ take_at bytes (b ∷ more) (length bytes) refl in
-    let rest : drop r.len text ≡ b ∷ more = ap (λ n. drop n text) len ∙ drop_at bytes (b ∷ more) (length bytes) refl in
-    let token : token_of r.kind (take r.len text) ≡ t = ap (token_of r.kind) front ∙ r.same (sym len) in
-    subst (λ u. Longest text u bytes (b ∷ more)) token
-    (subst (λ s. Longest text (token_of r.kind (take r.len text)) s (b ∷ more)) front
-    (subst (λ s. Longest text (token_of r.kind (take r.len text)) (take r.len text) s) rest long))
+bare : (t : Token) (bytes : List ℕ) (b : ℕ) (more : List ℕ) → Spells t bytes → is_blank b ≡ true
+    → NoGap lexicon (bytes ++ (b ∷ more))
+bare t bytes b more h e gap behind (blank c one whole is) =
+    let r = reach (bytes ++ (b ∷ more)) t bytes (b ∷ more)
+    (record { whole = refl; spelled = h; ends = ends_at_blank t b more e }) in
+    none-some (r.kind, r.len) (sym (blank_none c behind is) ∙ ap token_at (sym whole) ∙ r.found)
+bare t bytes b more h e gap behind (comment begins) =
+    let found = comment_found (bytes ++ (b ∷ more)) gap behind begins in
+    omega (arith, found.0, found.1, quiet t bytes b more h e)
 
 -- ---- all of them
 
-ReadsAs : ℕ → List ℕ → List Token → Type 0
-ReadsAs at text tokens =
-    (placed : List Placed) × AreTokens at text placed × (map (λ p. p.0) placed ≡ tokens ++ (End ∷ []))
+abbrev Can : Token → Type 0
+Can t = (bytes : List ℕ) × Spells t bytes
 
-after_blank : (at b : ℕ) (more : List ℕ) (tokens : List Token) → is_blank b ≡ true → ReadsAs (at + 1) more tokens
-    → ReadsAs at (b ∷ more) tokens
-unfolding ReadsAs
-after_blank at b more tokens e h = (h.0, passes_blank at b more h.0 e h.1, h.2)
-
-one_more : (t : Token) (b : ℕ) (more : List ℕ) (tokens : List Token) → (bytes : List ℕ) × Spells t bytes
-    → is_blank b ≡ true → ((at : ℕ) → ReadsAs at more tokens)
-    → (at : ℕ) → ReadsAs at (spelling t ++ (b ∷ more)) (t ∷ tokens)
-unfolding ReadsAs
-one_more t b more tokens h e all at =
-    let spelled : Spells t (spelling t) = spelled_so t h.0 h.1 in
-    let rest : ReadsAs (at + length (spelling t)) (b ∷ more) tokens
-    = after_blank (at + length (spelling t)) b more tokens e (all (at + length (spelling t) + 1)) in (
-      (t, at) ∷ rest.0,
-      takes at (spelling t ++ (b ∷ more)) t (spelling t) (b ∷ more) rest.0
-          (no_comment (spelling t ++ (b ∷ more)) (quiet t (spelling t) b more spelled e))
-          (longest_before t (spelling t) b more spelled e) rest.1,
-      ap (λ ts. t ∷ ts) rest.2,
+stands : StandsBefore lexicon BlankFollows spelling Can
+stands t [] can follows = absurd follows
+stands t (b ∷ more) can follows =
+    let spelled : Spells t (spelling t) = spelled_so t can.0 can.1 in (
+      bare t (spelling t) b more spelled follows,
+      longest_before lexicon BlankFollows scanner t (spelling t) (b ∷ more) spelled (ends_at_blank t b more follows)
+          follows,
     )
 
-nothing : (at : ℕ) → ReadsAs at [] []
-unfolding ReadsAs
-nothing at = ((End, at) ∷ [], ends at, refl)
-
-read_back : (tokens : List Token) → CanBeWritten tokens → (at : ℕ) → ReadsAs at (written tokens) tokens
-read_back [] h at = after_blank at 10 [] [] refl (nothing (at + 1))
-read_back (t ∷ []) h at = one_more t 10 [] [] h.0 refl nothing at
-read_back (t ∷ u ∷ tokens) h at =
-    one_more t 32 (written (u ∷ tokens)) (u ∷ tokens) h.0 refl (read_back (u ∷ tokens) h.1) at
+space_stands : SpaceStands lexicon BlankFollows
+space_stands rest = (refl, blank 32 refl refl refl)
 
 pub is_read_back : IsReadBack
-unfolding ReadsAs
-is_read_back tokens h = read_back tokens h 0
+is_read_back tokens all =
+    written_read lexicon BlankFollows spelling Can stands space_stands (10 ∷ []) refl
+    (λ at. (
+      (End, at + 1) ∷ [],
+      passes at (10 ∷ []) (10 ∷ []) [] ((End, at + 1) ∷ []) (blank 10 refl refl refl)
+          (ends (at + 1)),
+      refl,
+    )) tokens all 0

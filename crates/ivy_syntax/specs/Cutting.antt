@@ -1,6 +1,6 @@
 -- How a text is cut into tokens from the left, as a function. Only contracts of private functions name it.
-use Rattle.std.specs.Prelude.{◌<◌, ◌≤◌, ◌+◌, ◌-◌, ◌*◌, ◌/◌, ℕ, zero, suc, Bool, ◌&&◌, ◌==◌}
-use Rattle.std.specs.Prelude.{List, [], ◌∷◌, ◌++◌, take, drop, slice_index, if◌then◌else◌}
+use Rattle.std.specs.Prelude.{◌<◌, ◌≤◌, ◌+◌, ◌*◌, ◌/◌, ℕ, Bool, ◌&&◌, ◌==◌}
+use Rattle.std.specs.Prelude.{List, [], ◌∷◌, take, drop, slice_index, if◌then◌else◌}
 use Rattle.std.specs.Prelude.{Option, Some, None, option_map, bytes_eq}
 use Rattle.std.specs.List.{prefix_len}
 use Rattle.std.specs.Char.{is_ascii_digit, is_ascii_hexdigit}
@@ -16,9 +16,8 @@ use Rattle.ivy_syntax.specs.declared.lexeme.Front.{Front}
 use Rattle.ivy_syntax.specs.declared.lexeme.Front.TheVariants as front
 use Rattle.wire.specs.Decimal.{decimal_within}
 use Rattle.wire.specs.Spelling.{greatest}
-use Rattle.ivy_syntax.specs.Token.{End, Bad, letters, begins_name, goes_on, is_quotable}
-use Rattle.ivy_syntax.specs.Tokens.{Placed, is_blank, is_in_line}
-use Rattle.ivy_syntax.specs.Lexeme.{token_of}
+use Rattle.ivy_syntax.specs.Token.{letters, begins_name, goes_on, is_quotable}
+use Rattle.ivy_syntax.specs.Tokens.{is_blank, is_in_line}
 
 -- ---- the first token
 
@@ -145,41 +144,15 @@ abbrev pub front_of_cut : Cut → Front
 front_of_cut None = front.Wrong
 front_of_cut (Some cut) = front.Token cut.0 cut.1
 
+-- how many bytes of a blank or a comment the text begins with
+abbrev pub gap_len : List ℕ → ℕ
+gap_len text = if is_blank (slice_index text 0) then 1 else comment_len text
+
 unfoldable pub front_at : List ℕ → Front
-front_at text =
-    if is_blank (slice_index text 0) then front.Blank 1
-    else (if comment_len text == 0 then front_of_cut (token_at text) else front.Blank (comment_len text))
+front_at text = if gap_len text == 0 then front_of_cut (token_at text) else front.Blank (gap_len text)
 
 -- what a text begins with takes at least one byte, and no more than there are
 abbrev pub TakesWithin : Front → ℕ → Type 0
 TakesWithin (front.Blank len) most = (0 < len) × (len ≤ most)
 TakesWithin (front.Token k len) most = (0 < len) × (len ≤ most)
 TakesWithin front.Wrong most = Unit {0}
-
--- ---- the whole text
-
--- the token that a front gives, where the text before which so many bytes stand begins with it
-abbrev pub given : Front → ℕ → List ℕ → List Placed
-given (front.Blank len) at text = []
-given (front.Token k len) at text = (token_of k (take len text), at) ∷ []
-given front.Wrong at text = (Bad, at) ∷ []
-
--- how many bytes it takes after its first, and whether the text goes on after it
-abbrev pub taken : Front → ℕ
-taken (front.Blank len) = len - 1
-taken (front.Token k len) = len - 1
-taken front.Wrong = 0
-
-abbrev pub on : Front → List Placed → List Placed
-on front.Wrong rest = []
-on _ rest = rest
-
--- the tokens of a text, before which stand so many bytes; the first number counts the bytes that are left of one
-abbrev pub cuts_from : ℕ → ℕ → List ℕ → List Placed
-cuts_from left at [] = (End, at) ∷ []
-cuts_from (suc left) at (b ∷ rest) = cuts_from left (at + 1) rest
-cuts_from zero at (b ∷ rest) =
-    let f = front_at (b ∷ rest) in given f at (b ∷ rest) ++ on f (cuts_from (taken f) (at + 1) rest)
-
-unfoldable pub cuts : ℕ → List ℕ → List Placed
-cuts at text = cuts_from 0 at text

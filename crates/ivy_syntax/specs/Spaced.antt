@@ -1,7 +1,7 @@
 -- What is added to a text as a source is printed: tokens after those that stand there. Only contracts of private
 -- functions name it.
 use Rattle.std.specs.Prelude.{ℕ, Bool, true, false, List, [], ◌∷◌}
-use Rattle.std.specs.List.{flat_map}
+use Rattle.grammars.specs.Tokens as texts
 use Rattle.ivy_syntax.specs.declared.lexeme.Keyword.{Keyword}
 use Rattle.ivy_syntax.specs.declared.lexeme.Keyword.TheVariants as keyword
 use Rattle.ivy_syntax.specs.declared.lexeme.Symbol.{Symbol}
@@ -10,7 +10,7 @@ use Rattle.ivy_syntax.specs.Tokens.{spelling}
 
 -- the tokens with a space before each
 abbrev pub spaced : List Token → List ℕ
-spaced tokens = flat_map (λ token. 32 ∷ spelling token) tokens
+spaced tokens = texts.spaced spelling tokens
 
 -- a sign, where it is wanted
 abbrev pub sign_if : Bool → Symbol → List Token

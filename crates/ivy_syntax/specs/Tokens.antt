@@ -1,33 +1,20 @@
 -- The tokens of a text, each with its place: the number of bytes that stand before it. Public statements rest on this
 -- file.
-use Rattle.std.specs.Prelude.{◌≡◌, ◌≤◌, ◌+◌, ◌/◌, ◌%◌, ℕ, Bool, false, not, ◌==◌, ◌||◌, List, [], ◌∷◌, ◌++◌}
+use Rattle.std.specs.Prelude.{◌≡◌, ◌≤◌, ◌/◌, ◌%◌, ℕ, Bool, false, not, ◌==◌, ◌||◌, List, [], ◌∷◌, ◌++◌}
 use Rattle.std.specs.Prelude.{length, map, flat_map, codes, decimal, IsTrue, IsFalse}
 use Rattle.std.specs.List.{list_all, AllByRecursion}
 use Rattle.std.specs.Fmt.{digit_glyph}
+use Rattle.grammars.specs.Tokens.{Lexicon}
+use Rattle.grammars.specs.Tokens as tokens
 use Rattle.ivy_syntax.specs.Token.{Token, Word, Sign, Operation, Name, Number, Hex, Quoted, End, Bad}
 use Rattle.ivy_syntax.specs.Token.{letters, sign, mark, goes_on, Spells}
 
--- ---- the token at the front of a text
+-- ---- what may stand after a token
 
 -- A number has no letter, digit or `_` after it.
 abbrev pub EndsBefore : Token → List ℕ → Type 0
 EndsBefore (Number n) (b ∷ rest) = IsFalse (goes_on b)
 EndsBefore _ _ = Unit {0}
-
--- The text begins with this token, which takes these bytes, and then goes on with the rest.
-pub record Begins (text : List ℕ) (token : Token) (bytes rest : List ℕ) : Type 0 where
-  pub whole : text ≡ bytes ++ rest
-  pub spelled : Spells token bytes
-  pub ends : EndsBefore token rest
-
--- Of the tokens with which the text begins this is the longest.
-pub record Longest (text : List ℕ) (token : Token) (bytes rest : List ℕ) : Type 0 where
-  pub begins : Begins text token bytes rest
-  pub longest : (other : Token) (others more : List ℕ) → Begins text other others more → length others ≤ length bytes
-
--- No token begins here.
-abbrev pub NoToken : List ℕ → Type 0
-NoToken text = (token : Token) (bytes rest : List ℕ) → Begins text token bytes rest → ⊥
 
 -- ---- blanks and comments
 
@@ -62,42 +49,31 @@ pub data BeginsComment (text comment rest : List ℕ) : Type 0 where
       → comment ≡ codes "/*" ++ (body ++ codes "*/")
       → BeginsComment text comment rest
 
--- No comment begins here.
-abbrev pub NoComment : List ℕ → Type 0
-NoComment text = (comment rest : List ℕ) → BeginsComment text comment rest → ⊥
+-- A blank or a comment is passed over.
+pub data BeginsGap (text gap rest : List ℕ) : Type 0 where
+  blank : (b : ℕ)
+      → gap ≡ b ∷ []
+      → text ≡ b ∷ rest
+      → IsTrue (is_blank b)
+      → BeginsGap text gap rest
+  comment : BeginsComment text gap rest
+      → BeginsGap text gap rest
 
 -- ---- the tokens of a text
+
+abbrev pub lexicon : Lexicon Token
+lexicon = record { Spells = Spells; EndsBefore = EndsBefore; BeginsGap = BeginsGap; end = End; bad = Bad }
 
 abbrev pub Placed : Type 0
 Placed = Token × ℕ
 
--- The text, before which stand so many bytes, has these tokens. Blanks and comments are passed over. At its end stands
--- End; where no token begins stands Bad, and nothing after it; else the longest token, and then those of the rest.
-pub data AreTokens : ℕ → List ℕ → List Placed → Type 0 where
-  ends : (at : ℕ)
-      → AreTokens at [] ((End, at) ∷ [])
-  passes_blank : (at b : ℕ) (rest : List ℕ) (tokens : List Placed)
-      → IsTrue (is_blank b)
-      → AreTokens (at + 1) rest tokens
-      → AreTokens at (b ∷ rest) tokens
-  passes_comment : (at : ℕ) (text comment rest : List ℕ) (tokens : List Placed)
-      → BeginsComment text comment rest
-      → AreTokens (at + length comment) rest tokens
-      → AreTokens at text tokens
-  takes : (at : ℕ) (text : List ℕ) (token : Token) (bytes rest : List ℕ) (tokens : List Placed)
-      → NoComment text
-      → Longest text token bytes rest
-      → AreTokens (at + length bytes) rest tokens
-      → AreTokens at text ((token, at) ∷ tokens)
-  stops : (at b : ℕ) (rest : List ℕ)
-      → IsFalse (is_blank b)
-      → NoToken (b ∷ rest)
-      → AreTokens at (b ∷ rest) ((Bad, at) ∷ [])
+-- The text, before which stand so many bytes, has these tokens.
+abbrev pub AreTokens : ℕ → List ℕ → List Placed → Type 0
+AreTokens at text placed = tokens.AreTokens lexicon at text placed
 
 -- Each text has exactly one list of tokens.
 abbrev pub EachHasOneReading : Type 0
-EachHasOneReading = (text : List ℕ) → (tokens : List Placed) × AreTokens 0 text tokens
-    × ((others : List Placed) → AreTokens 0 text others → tokens ≡ others)
+EachHasOneReading = tokens.EachHasOneReading lexicon
 
 -- ---- the text that writes tokens
 
@@ -118,9 +94,7 @@ spelling Bad = []
 
 -- one space between two, and a newline at the end
 abbrev pub written : List Token → List ℕ
-written [] = 10 ∷ []
-written (token ∷ []) = spelling token ++ (10 ∷ [])
-written (token ∷ next ∷ tokens) = spelling token ++ (32 ∷ written (next ∷ tokens))
+written placed = tokens.written spelling placed ++ (10 ∷ [])
 
 -- Each token can be written.
 abbrev pub CanBeWritten : List Token → Type 0

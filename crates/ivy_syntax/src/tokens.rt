@@ -281,17 +281,27 @@ fn comment_len(text: &[u8], unclosed: bool) -> usize
     }
 }
 
-#[tactic(auto, using(crate::proofs::Readings::front_within), unfolding(crate::specs::Cutting::front_at))]
+// How many bytes of a blank or a comment the text begins with.
+fn gap_len(text: &[u8], unclosed: bool) -> usize
+    requires small { length text.now < 2 ^ 63 }
+    requires unclosed { IsTrue unclosed → cutting.close_of (drop 1 text.now) ≡ None }
+    ensures { result ≡ cutting.gap_len text.now }
+{
+    if is_blank(byte(text, 0)) {
+        1
+    } else {
+        comment_len(text, unclosed)
+    }
+}
+
+#[tactic(auto, unfolding(crate::specs::Cutting::front_at))]
 fn front(text: &[u8], unclosed: bool) -> Front
     requires small { length text.now < 2 ^ 63 }
     requires unclosed { IsTrue unclosed → cutting.close_of (drop 1 text.now) ≡ None }
     ensures value { result ≡ cutting.front_at text.now }
     ensures within { cutting.TakesWithin result (length text.now) }
 {
-    if is_blank(byte(text, 0)) {
-        return Front::Blank(1);
-    }
-    match comment_len(text, unclosed) {
+    match gap_len(text, unclosed) {
         0 => front_of_cut(token_at(text)),
         len => Front::Blank(len),
     }

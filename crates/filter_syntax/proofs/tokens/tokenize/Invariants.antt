@@ -1,5 +1,6 @@
-use Rattle.std.proofs.Common.{◌-◌, ◌≤◌, ◌++◌, List, drop, length, map}
-use Rattle.filter_syntax.specs.Tokens.{Placed, AreTokens}
+use Rattle.std.proofs.Common.{◌-◌, ◌≤◌, length, map}
+use Rattle.grammars.specs.Steps.{ReadUpTo}
+use Rattle.filter_syntax.specs.Tokens.{lexicon}
 use Rattle.filter_syntax.specs.Lexing.{seen}
 use Rattle.filter_syntax.proofs.tokens.tokenize.Given as goal
 
@@ -7,8 +8,7 @@ use Rattle.filter_syntax.proofs.tokens.tokenize.Given as goal
 abbrev pub invariant-loop-at : goal.invariant-loop-at
 invariant-loop-at l = record {
   within : l.at ≤ length l.text;
-  onto : (more : List Placed) → AreTokens l.at (drop l.at l.text) more
-      → AreTokens 0 l.text (map (seen l.text) l.lexemes.items ++ more);
+  onto : ReadUpTo lexicon l.text l.at (map (seen l.text) l.lexemes.items);
 }
 
 abbrev pub decreases-loop-at : goal.decreases-loop-at

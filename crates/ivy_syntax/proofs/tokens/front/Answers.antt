@@ -1,7 +1,9 @@
-use Rattle.std.proofs.Common.{sym, subst, length, arith, ◌<◌}
-use Rattle.ivy_syntax.specs.Cutting.{comment_len, front_of_cut, token_at, TakesWithin}
-use Rattle.ivy_syntax.proofs.Readings.{cut_within}
-use Rattle.ivy_syntax.proofs.Comments.{comment_sound}
+use Rattle.std.proofs.Common.{sym, subst, length, arith}
+use Rattle.ivy_syntax.specs.Cutting.{front_of_cut, token_at, TakesWithin}
+use Rattle.ivy_syntax.proofs.Readings.{cut_within, scanner}
+use Rattle.grammars.specs.Scanner.{gap_within}
+use Rattle.ivy_syntax.specs.Tokens.{lexicon}
+use Rattle.ivy_syntax.proofs.Reach.{BlankFollows}
 use Rattle.ivy_syntax.proofs.tokens.front.Goals as goal
 
 pub returns-in-0-clause-within : goal.returns-in-0-clause-within
@@ -12,5 +14,4 @@ returns-in-0-clause-within c =
 
 pub returns-in_default-clause-within : goal.returns-in_default-clause-within
 returns-in_default-clause-within c =
-    let some : 0 < comment_len c.args.text.now = omega (arith, c.comment_len.ensures) in
-    (omega arith, omega (arith, c.comment_len.ensures, (comment_sound c.args.text.now some).within))
+    (omega arith, omega (arith, c.gap_len.ensures, gap_within lexicon BlankFollows scanner c.args.text.now))

@@ -1,9 +1,8 @@
-use Rattle.std.proofs.Common.{◌∙◌, ap, sym, subst, length, arith, ◌++◌, ◌∷◌, [], ◌+◌, drop}
+use Rattle.std.proofs.Common.{◌∙◌, ap, sym, subst, length, arith, ◌++◌, ◌∷◌, [], ◌+◌}
 use Rattle.std.proofs.lemmas.List.{take_rest, length-drop, map-append}
 use Rattle.ivy_syntax.specs.Lexeme.{placed, tokens}
-use Rattle.ivy_syntax.specs.Tokens.{AreTokens}
-use Rattle.ivy_syntax.specs.Cutting.{cuts}
-use Rattle.ivy_syntax.proofs.Readings.{cuts_read}
+use Rattle.grammars.specs.Steps.{ReadUpTo}
+use Rattle.ivy_syntax.specs.Tokens.{AreTokens, lexicon}
 use Rattle.ivy_syntax.proofs.Steps.{step_blank, step_token, step_wrong, step_end, none_here, none_further, none_since}
 use Rattle.ivy_syntax.proofs.tokens.tokenize.Goals as goal
 use Rattle.ivy_syntax.proofs.tokens.tokenize.Goals.{then-unclosed, else-unclosed}
@@ -14,8 +13,8 @@ front-requires-clause-unclosed c =
 
 pub loop-at-preserved-in-Blank : goal.loop-at-preserved-in-Blank
 loop-at-preserved-in-Blank c = record {
-  whole = step_blank c.args.text.now c.loop-at.at (tokens c.loop-at.lexemes.items) c.loop-at.invariant.whole
-      c.in-Blank.len c.in-Blank.ensures.value c.in-Blank.ensures.within;
+  onto = step_blank c.args.text.now c.loop-at.at (tokens c.loop-at.lexemes.items) c.loop-at.invariant.onto
+      c.in-Blank.len c.in-Blank.ensures.value c.in-Blank.ensures.within.0;
   within = omega (
     arith,
     c.in-Blank.ensures.within,
@@ -27,10 +26,10 @@ loop-at-preserved-in-Blank c = record {
 
 pub loop-at-preserved : goal.loop-at-preserved
 loop-at-preserved c = record {
-  whole = ap (λ ts. ts ++ cuts (c.loop-at.at + c.in-Token.len) (drop (c.loop-at.at + c.in-Token.len) c.args.text.now))
-      (ap tokens c.in_ok-push-in-Token.ensures.items ∙ map-append placed c.loop-at.lexemes.items (_ ∷ []))
-      ∙ step_token c.args.text.now c.loop-at.at (tokens c.loop-at.lexemes.items) c.loop-at.invariant.whole
-      c.in-Token.kind c.in-Token.len c.in-Token.ensures.value c.in-Token.ensures.within;
+  onto = subst (ReadUpTo lexicon c.args.text.now (c.loop-at.at + c.in-Token.len))
+      (sym (ap tokens c.in_ok-push-in-Token.ensures.items ∙ map-append placed c.loop-at.lexemes.items (_ ∷ [])))
+      (step_token c.args.text.now c.loop-at.at (tokens c.loop-at.lexemes.items) c.loop-at.invariant.onto
+      c.in-Token.kind c.in-Token.len c.in-Token.ensures.value);
   within = omega (
     arith,
     c.in-Token.ensures.within,
@@ -50,16 +49,14 @@ pub returns-in-Wrong : goal.returns-in-Wrong
 returns-in-Wrong c =
     subst (AreTokens 0 c.args.text.now)
     (sym (ap tokens c.in_ok-push-in-Wrong.ensures.items ∙ map-append placed c.loop-at.lexemes.items (_ ∷ [])
-    ∙ ap (λ t. tokens c.loop-at.lexemes.items ++ (t ∷ [])) c.point.ensures.token
-    ∙ step_wrong c.args.text.now c.loop-at.at (tokens c.loop-at.lexemes.items) c.loop-at.invariant.whole
-    c.in-Wrong.ensures.value c.loop-at-test.true))
-    (cuts_read c.args.text.now)
+    ∙ ap (λ t. tokens c.loop-at.lexemes.items ++ (t ∷ [])) c.point.ensures.token))
+    (step_wrong c.args.text.now c.loop-at.at (tokens c.loop-at.lexemes.items) c.loop-at.invariant.onto
+    c.in-Wrong.ensures.value c.loop-at-test.true)
 
 pub returns : goal.returns
 returns c =
     subst (AreTokens 0 c.args.text.now)
     (sym (ap tokens c.in_ok-push.ensures.items ∙ map-append placed c.loop-at.lexemes.items (_ ∷ [])
-    ∙ ap (λ t. tokens c.loop-at.lexemes.items ++ (t ∷ [])) c.point-2.ensures.token
-    ∙ step_end c.args.text.now c.loop-at.at (tokens c.loop-at.lexemes.items) c.loop-at.invariant.whole
-    c.loop-at-test.false))
-    (cuts_read c.args.text.now)
+    ∙ ap (λ t. tokens c.loop-at.lexemes.items ++ (t ∷ [])) c.point-2.ensures.token))
+    (step_end c.args.text.now c.loop-at.at (tokens c.loop-at.lexemes.items) c.loop-at.invariant.onto
+    c.loop-at-test.false)

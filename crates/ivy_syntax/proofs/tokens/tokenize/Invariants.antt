@@ -1,11 +1,13 @@
-use Rattle.std.proofs.Common.{◌≡◌, ◌+◌, ◌-◌, ◌≤◌, ◌++◌, true, length, drop, None}
+use Rattle.std.proofs.Common.{◌≡◌, ◌+◌, ◌-◌, ◌≤◌, true, length, drop, None}
 use Rattle.ivy_syntax.specs.Lexeme.{tokens}
-use Rattle.ivy_syntax.specs.Cutting.{cuts, close_from}
+use Rattle.ivy_syntax.specs.Cutting.{close_from}
+use Rattle.grammars.specs.Steps.{ReadUpTo}
+use Rattle.ivy_syntax.specs.Tokens.{lexicon}
 use Rattle.ivy_syntax.proofs.tokens.tokenize.Given as goal
 
 abbrev pub invariant-loop-at : goal.invariant-loop-at
 invariant-loop-at l = record {
-  whole : tokens l.lexemes.items ++ cuts l.at (drop l.at l.text) ≡ cuts 0 l.text;
+  onto : ReadUpTo lexicon l.text l.at (tokens l.lexemes.items);
   within : l.at ≤ length l.text;
   unclosed : l.unclosed ≡ true → close_from 0 (drop (l.at + 1) l.text) ≡ None;
 }

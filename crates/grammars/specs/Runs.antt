@@ -1,7 +1,8 @@
--- The longest front of a list whose members pass a test, and what is after it.
+-- The longest front of a text whose bytes pass a test, and what is after it. Laws with their proofs.
 use Rattle.std.proofs.Common.{◌≡◌, ◌≤◌, ◌+◌, ℕ, zero, suc, Bool, true, false, List, [], ◌∷◌, ◌++◌}
 use Rattle.std.proofs.Common.{inl, inr, length, take, drop, refl, ap, ◌∙◌, arith}
 use Rattle.std.specs.List.{list_all, prefix_len}
+use Rattle.grammars.specs.Tokens.{StopsAt}
 use Rattle.std.proofs.lemmas.Bool.{cases_Bool, cond-true, cond-false, and_parts, and_from}
 
 one_more : (n : ℕ) → 1 + n ≡ suc n
@@ -12,11 +13,6 @@ prefix_yes p b rest e = cond-true _ _ _ e ∙ one_more (prefix_len p rest)
 
 pub prefix_no : (p : ℕ → Bool) (b : ℕ) (rest : List ℕ) → p b ≡ false → prefix_len p (b ∷ rest) ≡ 0
 prefix_no p b rest e = cond-false _ _ _ e
-
--- the rest doesn't go on with one that passes
-abbrev pub StopsAt : (ℕ → Bool) → List ℕ → Type 0
-StopsAt p [] = Unit {0}
-StopsAt p (b ∷ rest) = p b ≡ false
 
 pub run_passes : (p : ℕ → Bool) (xs : List ℕ) → list_all p (take (prefix_len p xs) xs) ≡ true
 run_passes p [] = refl
