@@ -3,3 +3,10 @@ pub mod TableLemmas
 pub mod WholeLemmas
 pub mod TypingLemmas
 pub mod ArmLemmas
+pub mod TypeWords
+pub mod FormTypings
+pub mod TypingRules
+pub mod TypingFound
+pub mod NameLists
+pub mod UseLemmas
+pub mod WellTypedLemmas

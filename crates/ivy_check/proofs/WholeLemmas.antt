@@ -21,10 +21,10 @@ none_or : (x y : Option Reported) → or_first x y ≡ None → (x ≡ None) × 
 none_or None y h = (refl, h)
 none_or (Some reported) y h = absurd cc
 
-none_both : (a b : List Test) → first_of (a ++ b) ≡ None → (first_of a ≡ None) × (first_of b ≡ None)
+pub none_both : (a b : List Test) → first_of (a ++ b) ≡ None → (first_of a ≡ None) × (first_of b ≡ None)
 none_both a b h = none_or (first_of a) (first_of b) (sym (first_of_append a b) ∙ h)
 
-none_fault : (kind at : ℕ) (b : Bool) → first_of (fault kind at (not b)) ≡ None → IsTrue b
+pub none_fault : (kind at : ℕ) (b : Bool) → first_of (fault kind at (not b)) ≡ None → IsTrue b
 none_fault kind at true h = refl
 none_fault kind at false h = absurd cc
 

@@ -2,10 +2,12 @@ pub mod Tests
 pub mod Types
 pub mod Functions
 pub mod Scope
+pub mod Typing
 pub mod Expressions
 pub mod Statements
 pub mod Uses
 pub mod Declarations
+pub mod WellTyped
 pub mod TypeFault
 pub mod Walk
 pub mod Laws

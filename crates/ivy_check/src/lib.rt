@@ -16,6 +16,6 @@ mod uses;
 mod verdict;
 
 pub use fault::TypeFault;
-pub use laws::type_faults;
+pub use laws::{expression_types, type_faults, well_typed};
 pub use types::IvyType;
 pub use verdict::{Checked, check};

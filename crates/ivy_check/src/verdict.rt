@@ -1,8 +1,9 @@
 //! The verdict on a source.
-ghost use Rattle.std.specs.Prelude.{◌≡◌, ◌≢◌, ◌↔◌, ℕ, Some, None, Err, IfOk};
+ghost use Rattle.std.specs.Prelude.{◌≡◌, ◌≢◌, ◌↔◌, ℕ, Some, None, Err, IfOk, IsOk};
 ghost use Rattle.wire.specs.Tables.{First};
 ghost use Rattle.ivy_syntax.specs.Texts.{IsOfSomeText};
 ghost use Rattle.ivy_check.specs.TypeFault.{causes_of};
+ghost use Rattle.ivy_check.specs.WellTyped.{WellTyped};
 ghost use Rattle.ivy_check.specs.declared.fault.TypeFault.TheVariants.{At, NoMemory};
 
 use crate::contract::contracts;
@@ -40,6 +41,8 @@ impl Checked {
         ensures text { IsOfSomeText self.now }
         // No type fault stands in it.
         ensures none { First (causes_of self.now) None }
+        // It is well typed.
+        ensures typed { WellTyped self.now }
     {
         &self.source
     }
@@ -52,6 +55,8 @@ pub fn check(source: Source) -> Result<Checked, TypeFault>
     requires text { IsOfSomeText source }
     // What is checked is the source, and no type fault stands in it.
     ensures ok { IfOk result (λ checked. (checked ≡ source) × First (causes_of source) None) }
+    // It is checked exactly where it is well typed.
+    ensures typed { IsOk result ↔ WellTyped source }
     // A refusal is the first type fault.
     ensures fault { (at kind : ℕ) → (result ≡ Err (At at kind)) ↔ First (causes_of source) (Some (at, kind)) }
     // There is no other refusal.

@@ -2,6 +2,7 @@
 use Rattle.std.proofs.Common.{ℕ, None, Some, refl, ap, ◌∙◌}
 use Rattle.ivy_check.specs.TypeFault.{tests_of}
 use Rattle.ivy_check.proofs.TableLemmas.{answers, reported_is, no_fault, is_first, is_reported}
+use Rattle.ivy_check.proofs.WellTypedLemmas.{passed_is_typed, refused_is_not}
 use Rattle.ivy_check.proofs.verdict.check.Goals as goal
 
 pub returns-in-Ok-clause-ok : goal.returns-in-Ok-clause-ok
@@ -19,3 +20,11 @@ returns-in-Err-clause-fault c = λ at kind.
       (λ e. is_first c.args.source _ c.as_slice.ensures _ _ h at kind e),
       (λ first. is_reported c.args.source _ c.as_slice.ensures _ _ h at kind first),
     )
+
+pub returns-in-Ok-clause-typed : goal.returns-in-Ok-clause-typed
+returns-in-Ok-clause-typed c =
+    ((λ ok. passed_is_typed c.args.source _ c.as_slice.ensures c.in-Ok.ensures), (λ typed. refl))
+
+pub returns-in-Err-clause-typed : goal.returns-in-Err-clause-typed
+returns-in-Err-clause-typed c =
+    ((λ ok. cc), (λ typed. absurd (refused_is_not c.args.source _ c.as_slice.ensures _ c.in-Err.ensures typed)))
