@@ -21,6 +21,8 @@ mod ledger_files;
 #[cfg(test)]
 mod lms;
 #[cfg(test)]
+mod lms_standard;
+#[cfg(test)]
 mod outside_calls;
 pub mod page;
 #[cfg(test)]

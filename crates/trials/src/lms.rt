@@ -92,8 +92,8 @@ const SIGNATURE_PLACES: [usize; 12] = [0, 3, 4, 7, 8, 39, 40, 1127, 1128, 1131, 
 // Places in each field of a public key: the tree's type, the one-time type, I, the root.
 const KEY_PLACES: [usize; 8] = [0, 3, 4, 7, 8, 23, 24, 55];
 
-// The bytes with one bit turned at a place.
-fn altered(alloc: Global, bytes: &[u8], at: usize) -> Result<Vec<u8>, SignFault> {
+/// The bytes with one bit turned at a place.
+pub fn altered(alloc: Global, bytes: &[u8], at: usize) -> Result<Vec<u8>, SignFault> {
     let mut bytes = Vec::from_slice(alloc, bytes)?;
     if at < bytes.len() {
         bytes[at] ^= 1;
@@ -144,5 +144,28 @@ fn altered_fields(rt: HostRuntime) -> Result<(), Fail> {
     );
     signature.push(0)?;
     assert!(rt; !LmsCheck.good(key.public(), b"message", &signature));
+    Ok(())
+}
+
+// Lengths of messages, and a place in each.
+const LENGTHS: [(usize, usize); 4] = [(32, 31), (10_000, 0), (10_000, 64), (10_000, 9_999)];
+
+// The next signature, of a message of this length, is good, and is not for the message that is altered at this place.
+fn is_for_all_of(key: &mut LmsKey, message: &[u8], other: &[u8]) -> Result<bool, SignFault> {
+    let signature = key.sign(message)?;
+    Ok(
+        LmsCheck.good(key.public(), message, &signature)
+            && !LmsCheck.good(key.public(), other, &signature),
+    )
+}
+
+#[test]
+fn long_messages(rt: HostRuntime) -> Result<(), Fail> {
+    let mut key = LmsKey::new(rt.alloc(), SEED, ID, 5)?;
+    for (len, at) in LENGTHS {
+        let message = b"m".repeat(rt.alloc(), len)?;
+        let other = altered(rt.alloc(), &message, at)?;
+        assert!(rt; is_for_all_of(&mut key, &message, &other)?, "{len} {at}");
+    }
     Ok(())
 }

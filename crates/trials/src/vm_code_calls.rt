@@ -1,5 +1,6 @@
 //! Calls of vm_code.
 use std::alloc::Global;
+use std::test::Fail;
 use vm_code::{AsmFault, CodeFault, assemble, disassemble, next};
 
 // A program and a place, and then the code, the pushed bytes, the place of a jump and the length that stand there, read
@@ -165,6 +166,35 @@ fn texts_of_programs(rt: HostRuntime) {
     for (program, text) in &TEXTS {
         assert!(rt; is_text_of(rt.alloc(), text, program), "{text}");
     }
+}
+
+// A text and a program by the front of each, what follows it, and how often: 3,000 codes, and a push of 70,000 bytes,
+// whose length is 0x00011170.
+const LONG_TEXTS: [(&str, &str, &[u8], &[u8], usize); 3] = [
+    ("NOP", " NOP", b"\x61", b"\x61", 2_999),
+    (
+        "1",
+        " 0xabcd JUMP:6",
+        b"\x51",
+        b"\x02\xab\xcd\x63\x06\x00\x00\x00",
+        1_000,
+    ),
+    ("PUSHDATA4:", "ab", b"\x4e\x70\x11\x01\x00", b"\xab", 70_000),
+];
+
+#[test]
+fn texts_of_long_programs(rt: HostRuntime) -> Result<(), Fail> {
+    for (front, word, code, bytes, count) in &LONG_TEXTS {
+        let mut text = String::from_str(rt.alloc(), front)?;
+        text.push_str(word.repeat(rt.alloc(), *count)?.as_str())?;
+        let mut program = Vec::from_slice(rt.alloc(), code)?;
+        program.extend_from_slice(&bytes.repeat(rt.alloc(), *count)?)?;
+        assert!(rt;
+            is_text_of(rt.alloc(), text.as_str(), &program),
+            "{count} {word}"
+        );
+    }
+    Ok(())
 }
 
 fn text_fault(alloc: Global, program: &[u8]) -> Option<CodeFault> {

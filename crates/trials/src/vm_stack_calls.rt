@@ -45,8 +45,30 @@ fn splits(alloc: Global) -> Result<bool, StackFault> {
     Ok(is_split && holds(&top, 2, 0, 18) && holds(&stack, 1, 1, 21))
 }
 
+// 0 to 19, a byte each, are put on the alt stack.
+fn twenty_on_alt(alloc: Global) -> Result<Stack, StackFault> {
+    let mut stack = Stack::new(alloc);
+    for k in 0..20u8 {
+        stack.push(&[k])?;
+        stack.to_alt()?;
+    }
+    Ok(stack)
+}
+
+// They cost 9 each, and come back the last first, so that 0 is on top at the end.
+fn moves_twenty(alloc: Global) -> Result<bool, StackFault> {
+    let mut stack = twenty_on_alt(alloc)?;
+    let is_away = holds(&stack, 0, 20, 180);
+    for _ in 0..20 {
+        stack.from_alt()?;
+    }
+    let is_back = holds(&stack, 20, 0, 180);
+    Ok(is_away && is_back && shows(&stack, 0, &[0]) && shows(&stack, 19, &[19]))
+}
+
 #[test]
 fn moves_and_splits(rt: HostRuntime) {
     assert!(rt; moves(rt.alloc()) == Ok(true));
     assert!(rt; splits(rt.alloc()) == Ok(true));
+    assert!(rt; moves_twenty(rt.alloc()) == Ok(true));
 }

@@ -75,6 +75,36 @@ fn books_are_read(rt: HostRuntime) {
     assert!(rt; matches!(last, Ok(book) if book.peek(3, &B) == Vote::Same));
 }
 
+const GREATEST: u64 = (1 << 63) - 1;
+
+// The last height of one byte, the first of two and the greatest, and their varints.
+const HEIGHTS: [(u64, &[u8]); 3] = [
+    (127, b"\x7f"),
+    (128, b"\x80\x01"),
+    (GREATEST, b"\xff\xff\xff\xff\xff\xff\xff\xff\x7f"),
+];
+
+// A book with a vote for B at this height is spelled by the varint and B, and is read back.
+fn is_book_of(alloc: Global, height: u64, varint: &[u8]) -> Result<bool, NoMemory> {
+    let mut spelling = Vec::from_slice(alloc, varint)?;
+    spelling.extend_from_slice(&B)?;
+    let mut book = Book::new();
+    if height > GREATEST || book.vote(height, &B) != Vote::New {
+        return Ok(false);
+    }
+    let is_same = book.encode(alloc)?.as_slice() == spelling.as_slice();
+    let read = decode_book(&spelling);
+    Ok(is_same && matches!(read, Ok(book) if book.peek(height, &B) == Vote::Same))
+}
+
+#[test]
+fn books_of_great_heights(rt: HostRuntime) -> Result<(), Fail> {
+    for (height, varint) in &HEIGHTS {
+        assert!(rt; is_book_of(rt.alloc(), *height, varint)?, "{height}");
+    }
+    Ok(())
+}
+
 // A program is read as that of so many keys, this many asked for, and is made of what was read again.
 fn reads(alloc: Global, program: &[u8], count: usize, m: u64) -> Result<bool, NoMemory> {
     match read_quorum(alloc, program)? {
@@ -92,10 +122,36 @@ const TWO_OF_THREE: &[u8] = b"\xaf\x01\xaa\x01\xab\x01\xac\x52\x53\xad";
 const ALL_OF_16: &[u8] = b"\xaf\x01\xaa\x01\xab\x01\xac\x01\xad\x01\xae\x01\xaf\x01\xb0\x01\xb1\
     \x01\xb2\x01\xb3\x01\xb4\x01\xb5\x01\xb6\x01\xb7\x01\xb8\x01\xb9\x60\x60\xad";
 
+// The front of the push of a key, what follows the key's first byte, and how many of 16 such keys are asked for, by its
+// push and as a number: keys of 56 bytes, and of 300, which PUSHDATA2 pushes.
+const LONG_KEYS: [(&[u8], &[u8], u8, u64); 4] = [
+    (b"\x38", &[0xaa; 55], 0x51, 1),
+    (b"\x38", &[0xaa; 55], 0x60, 16),
+    (b"\x4d\x2c\x01", &[0xbb; 299], 0x59, 9),
+    (b"\x4d\x2c\x01", &[0xbb; 299], 0x60, 16),
+];
+
+// The program of 16 keys, whose first bytes are 0 to 15: BLOCKHASH, their pushes, those of the two numbers,
+// CHECKMULTISIG.
+fn program_of_16(alloc: Global, front: &[u8], rest: &[u8], m: u8) -> Result<Vec<u8>, NoMemory> {
+    let mut program = vec![in alloc; 0xaf]?;
+    for k in 0..16u8 {
+        program.extend_from_slice(front)?;
+        program.push(k)?;
+        program.extend_from_slice(rest)?;
+    }
+    program.extend_from_slice(&[m, 0x60, 0xad])?;
+    Ok(program)
+}
+
 #[test]
 fn quorums_are_read(rt: HostRuntime) -> Result<(), Fail> {
     assert!(rt; reads(rt.alloc(), TWO_OF_THREE, 3, 2)?);
     assert!(rt; reads(rt.alloc(), ALL_OF_16, 16, 16)?);
+    for (front, rest, code, m) in &LONG_KEYS {
+        let program = program_of_16(rt.alloc(), front, rest, *code)?;
+        assert!(rt; reads(rt.alloc(), &program, 16, *m)?, "{m} {front:?}");
+    }
     Ok(())
 }
 
