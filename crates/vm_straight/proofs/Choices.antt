@@ -1,4 +1,4 @@
--- Of several pieces behind guards the one of the number runs, and the others are passed over.
+-- Of several pieces after guards the one of the number runs, and the others are passed over.
 use Rattle.std.proofs.Common.{◌≡◌, ℕ, ◌+◌, ◌<◌, ◌≤◌, ◌^◌, Bool, true, false, List, [], ◌∷◌, ◌++◌, length, get_or}
 use Rattle.std.proofs.Common.{refl, sym, ◌∙◌, ap, subst, Some, arith, length-append, ℤ, pos}
 use Rattle.keyed.specs.Functions.{Check}
@@ -7,7 +7,7 @@ use Rattle.vm_ops.specs.Results.{truth_item}
 use Rattle.vm_run.specs.declared.context.Context.{Context}
 use Rattle.vm_straight.specs.Operations.{Operation, bytes_of, AllFit, stack_after, items_cost, needed}
 use Rattle.vm_straight.specs.Success.{HoldsAt, Succeeds, SucceedsWith}
-use Rattle.vm_straight.specs.Choice.{jump_if, guard, past, choices, Selects, AllKeep, ChosenRuns, ChosenNeeds}
+use Rattle.vm_straight.specs.Choice.{jump_if, guard, past, choices, HasNumberAt, AllKeep, ChosenRuns, ChosenNeeds}
 use Rattle.vm_straight.specs.Choice.{guards_need}
 use Rattle.vm_straight.specs.Known.{Known}
 use Rattle.vm_straight.proofs.Places.{front_held, rest_held, held_inside}
@@ -25,7 +25,7 @@ at_same context check program items limit a b e s =
     subst (λ (n : ℕ). Succeeds context check program n items limit) e s
 
 module _ (known : Known) (context : Context) (check : Check) (program : List ℕ) (long : length program < 2 ^ 32)
-    (depth : ℕ) (items : List Item) (chosen : ℤ) (selects : Selects items depth chosen) where
+    (depth : ℕ) (items : List Item) (chosen : ℤ) (selects : HasNumberAt items depth chosen) where
   abbrev selector : Item
   selector = get_or items depth []
 

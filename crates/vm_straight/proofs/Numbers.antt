@@ -16,7 +16,7 @@ use Rattle.vm_run.specs.Moving.{pick_row, stack_rule}
 use Rattle.vm_run.specs.Making.{number_row, number_rule}
 use Rattle.vm_straight.specs.Operations.{PushNumber, Plain, AllFit, after_line, and_then, stack_after}
 use Rattle.vm_straight.specs.Operations.{items_cost, needed_by, needed}
-use Rattle.vm_straight.specs.Choice.{fetch, guard, Selects}
+use Rattle.vm_straight.specs.Choice.{fetch, guard, HasNumberAt}
 use Rattle.vm_straight.specs.Known.{Known}
 use Rattle.vm_straight.proofs.Straight.{joined_stacks, joined_needs}
 
@@ -56,7 +56,7 @@ module _ (known : Known) where
 
     -- ---- a guard
 
-    module _ (items : List Item) (depth : ℕ) (chosen : ℤ) (selects : Selects items depth chosen) where
+    module _ (items : List Item) (depth : ℕ) (chosen : ℤ) (selects : HasNumberAt items depth chosen) where
       abbrev pub other : ℕ → Bool
       other number = not (int_eq chosen (pos number))
 

@@ -1,4 +1,5 @@
--- Straight code runs to its end exactly where it has a stack after it and the limit covers what it needs.
+-- Straight code in a program: success before it is success after it, and the other way where the limit covers what it
+-- needs.
 use Rattle.std.proofs.Common.{◌≡◌, ℕ, ◌+◌, ◌-◌, ◌<◌, ◌≤◌, List, [], ◌∷◌, ◌++◌, length, take, drop, refl, sym, ◌∙◌, ap}
 use Rattle.std.proofs.Common.{subst, Option, Some, None, arith, append_assoc, length-append, inl, inr}
 use Rattle.std.proofs.lemmas.Bool.{cases_lt}

@@ -22,7 +22,7 @@ use Rattle.vm_run.specs.Moves.{move-read, short_of_opening, opening}
 use Rattle.vm_run.specs.Verdict.{verdict_of, HasVerdict, not_covered, covered}
 use Rattle.vm_straight.specs.Operations.{Operation, Push, Plain, bytes_of, AllFit, stack_after, items_cost, needed}
 use Rattle.vm_straight.specs.Success.{HoldsAt, Succeeds, SucceedsWith}
-use Rattle.vm_straight.specs.Wrapped.{pushes, front, wrapped, pushes_need}
+use Rattle.vm_straight.specs.Wrapped.{pushes, before_call, wrapped, pushes_need}
 use Rattle.vm_straight.specs.WrappedLaws.{CanWrap}
 use Rattle.vm_straight.specs.Known.{Known}
 use Rattle.vm_straight.proofs.Places.{all_held, front_held, rest_held}
@@ -151,23 +151,23 @@ module _ (known : Known) (context : Context) (check : Check) where
     abbrev all : List Item
     all = held ++ reverse given
 
-    front_gives : stack_after context check (front body held) (reverse given) ≡ Some (called body (length all) all)
+    before_gives : stack_after context check (before_call body held) (reverse given) ≡ Some (called body (length all) all)
     unfolding row stack_rule
-    front_gives = pushed_on held (Plain 0x74 ∷ Push body ∷ Push [] ∷ []) (reverse given)
+    before_gives = pushed_on held (Plain 0x74 ∷ Push body ∷ Push [] ∷ []) (reverse given)
 
-    front_fits : AllFit (front body held)
-    front_fits = joined_fit (pushes held) _ (pushes_fit held can.held_fit)
+    before_fits : AllFit (before_call body held)
+    before_fits = joined_fit (pushes held) _ (pushes_fit held can.held_fit)
         ((refl, refl), (can.body_fits, ((let e : 0 < 2 ^ 32 = omega arith in e), tt)))
 
-    front_stands : HoldsAt (wrapped body held) 0 (bytes_of (front body held))
+    before_stands : HoldsAt (wrapped body held) 0 (bytes_of (before_call body held))
     unfolding wrapped
-    front_stands = front_held _ (0xc0 ∷ []) (all_held _)
+    before_stands = front_held _ (0xc0 ∷ []) (all_held _)
 
-    call_stands : HoldsAt (wrapped body held) (0 + length (bytes_of (front body held))) (0xc0 ∷ [])
+    call_stands : HoldsAt (wrapped body held) (0 + length (bytes_of (before_call body held))) (0xc0 ∷ [])
     unfolding wrapped
-    call_stands = rest_held (bytes_of (front body held)) (0xc0 ∷ []) (all_held _)
+    call_stands = rest_held (bytes_of (before_call body held)) (0xc0 ∷ []) (all_held _)
 
-    call_last : 0 + length (bytes_of (front body held)) + 1 ≡ length (wrapped body held)
+    call_last : 0 + length (bytes_of (before_call body held)) + 1 ≡ length (wrapped body held)
     unfolding wrapped
     call_last = simp length-append (omega arith)
 
@@ -180,11 +180,11 @@ module _ (known : Known) (context : Context) (check : Check) where
     inward : (limit : ℕ) → Succeeds context check (wrapped body held) 0 (reverse given) limit
         → (left : ℕ) × Succeeds context check body 0 all left
     inward limit s =
-        let r = reached known context check (wrapped body held) (front body held) 0 (reverse given) limit front_fits
-        front_stands s in
-        let same : r.items ≡ called body (length all) all = same_items _ _ (sym r.is ∙ front_gives) in
+        let r = reached known context check (wrapped body held) (before_call body held) 0 (reverse given) limit before_fits
+        before_stands s in
+        let same : r.items ≡ called body (length all) all = same_items _ _ (sym r.is ∙ before_gives) in
         let there = subst (λ (stack : List Item). Succeeds context check (wrapped body held)
-        (0 + length (bytes_of (front body held))) stack r.left) same r.rest in
+        (0 + length (bytes_of (before_call body held))) stack r.left) same r.rest in
         (r.left - 256, (in_body (wrapped body held) body _ _ all call_stands call_last refl few r.left there).1)
 
     outward : (least limit : ℕ) → SucceedsWith context check body 0 all least
@@ -193,8 +193,8 @@ module _ (known : Known) (context : Context) (check : Check) where
     outward least limit inner covers =
         let needs = pushes_needed held (Plain 0x74 ∷ Push body ∷ Push [] ∷ []) (reverse given) (256 + least)
         (291 + length body + least) (last_needs least) in
-        carried known context check (wrapped body held) (front body held) (256 + least) 0 (reverse given) _ limit
-        front_fits front_stands front_gives (omega arith)
+        carried known context check (wrapped body held) (before_call body held) (256 + least) 0 (reverse given) _ limit
+        before_fits before_stands before_gives (omega arith)
         (λ left enough. of_body (wrapped body held) body _ _ all call_stands call_last refl few left (omega arith)
         (inner (left - 256) (omega arith)))
 

@@ -1,4 +1,4 @@
--- Several pieces of straight code, of which an item chooses one by its number: each stands behind a guard, which jumps
+-- Several pieces of straight code, of which an item chooses one by its number: each stands after a guard, which jumps
 -- past it unless the item is its number. Public statements name it.
 use Rattle.std.specs.Prelude.{◌≡◌, ℕ, ◌+◌, ◌<◌, ◌≤◌, ◌^◌, List, [], ◌∷◌, ◌++◌, length, Some, ℤ, pos, slice_index_or}
 use Rattle.std.specs.Int.{w32, to_le_bytes}
@@ -32,7 +32,7 @@ choices depth number place (piece ∷ pieces) =
     ++ choices depth (number + 1) (past depth number place piece) pieces))
 
 -- The item under so many others is this number.
-pub record Selects (items : List Item) (depth : ℕ) (chosen : ℤ) : Type 0 where
+pub record HasNumberAt (items : List Item) (depth : ℕ) (chosen : ℤ) : Type 0 where
   pub within : depth < length items
   pub small : depth < 2 ^ 63
   pub is : num (slice_index_or items depth []) ≡ Some chosen

@@ -5,7 +5,7 @@ use Rattle.vm_num.specs.Item.{Item}
 use Rattle.vm_run.specs.declared.context.Context.{Context}
 use Rattle.vm_straight.specs.Operations.{Operation}
 use Rattle.vm_straight.specs.Success.{HoldsAt, Succeeds, SucceedsWith}
-use Rattle.vm_straight.specs.Choice.{choices, Selects, AllKeep, ChosenRuns, ChosenNeeds, guards_need}
+use Rattle.vm_straight.specs.Choice.{choices, HasNumberAt, AllKeep, ChosenRuns, ChosenNeeds, guards_need}
 
 -- pieces with their guards at a place of a program
 pub record Stands (context : Context) (check : Check) (program : List ℕ) (depth number place : ℕ)
@@ -13,7 +13,7 @@ pub record Stands (context : Context) (check : Check) (program : List ℕ) (dept
   pub long : length program < 2 ^ 32
   pub few : number + length pieces < 2 ^ 63
   pub at : HoldsAt program place (choices depth number place pieces)
-  pub selects : Selects items depth chosen
+  pub selects : HasNumberAt items depth chosen
   pub keep : AllKeep context check items pieces
 
 pub record ChoiceLaws (context : Context) (check : Check) : Type 0 where

@@ -1,5 +1,5 @@
--- The wrapped form of a program: it pushes items below the arguments, and calls the program on all of them. Public
--- statements name it.
+-- The wrapped form of a program, its body: it pushes items on top of the arguments, and calls the body on all of them.
+-- Public statements name it.
 use Rattle.std.specs.Prelude.{ℕ, ◌+◌, List, [], ◌∷◌, ◌++◌, length}
 use Rattle.vm_num.specs.Item.{Item}
 use Rattle.vm_straight.specs.Operations.{Operation, Push, Plain, bytes_of}
@@ -10,12 +10,12 @@ pushes [] = []
 pushes (item ∷ items) = pushes items ++ (Push item ∷ [])
 
 -- the pushes, DEPTH, which says how many items there are, the push of the body, and 00, which asks for all of the limit
-abbrev pub front : (body : List ℕ) → (held : List Item) → List Operation
-front body held = pushes held ++ (Plain 0x74 ∷ Push body ∷ Push [] ∷ [])
+abbrev pub before_call : (body : List ℕ) → (held : List Item) → List Operation
+before_call body held = pushes held ++ (Plain 0x74 ∷ Push body ∷ Push [] ∷ [])
 
 -- and CHECKPREDICATE
 unfoldable pub wrapped : (body : List ℕ) → (held : List Item) → List ℕ
-wrapped body held = bytes_of (front body held) ++ (0xc0 ∷ [])
+wrapped body held = bytes_of (before_call body held) ++ (0xc0 ∷ [])
 
 -- what the pushes of items need: a base of 1 and the item's cost each
 abbrev pub pushes_need : List Item → ℕ

@@ -12,25 +12,27 @@ pub fn joining()
     ensures { (context : Context) (check : Check) → JoiningLaws context check }
 {}
 
-/// Straight code runs to its end exactly where it does not fail and the limit covers what it needs: wherever it stands
-/// in a program, success before it is success after it, with the stack that it leaves, and the other way. It does
-/// nothing when it runs.
+/// Wherever straight code stands in a program, success before it, under any limit, is success after it with the stack
+/// that it leaves; and success after it is success before it, under every limit that covers what the code needs. It
+/// does nothing when it runs.
 pub fn straight_code()
     ensures { (context : Context) (check : Check) → StraightLaws context check }
 {
     known();
 }
 
-/// Of several pieces of code behind guards, the one whose number an item is runs, and the others are passed over. It
-/// does nothing when it runs.
+/// Of several pieces of code after guards, the one whose number an item is runs, and the others are passed over: under
+/// any limit, success before the first guard says that this one did not fail; and it comes under every limit that
+/// covers the guards, this one and what follows. It does nothing when it runs.
 pub fn guarded_choice()
     ensures { (context : Context) (check : Check) → ChoiceLaws context check }
 {
     known();
 }
 
-/// A wrapped program succeeds exactly where its body does on the items that are pushed and the arguments, and the limit
-/// covers both. It does nothing when it runs.
+/// A wrapped program succeeds, under any limit, only where its body does on the items that are pushed and the
+/// arguments; and it does so under every limit that covers these, the pushes and what the body needs. It does nothing
+/// when it runs.
 pub fn wrapped_form()
     ensures { (context : Context) (check : Check) → WrappedLaws context check }
 {
