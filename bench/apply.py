@@ -9,7 +9,6 @@ many bytes as the ids of the blocks are hashed from, in the same run. At last tw
 usage: bench/apply.py [N]        N is 50,000 where it is not given
 """
 
-import hashlib
 import os
 import pathlib
 import subprocess
@@ -17,37 +16,14 @@ import sys
 import tempfile
 import time
 
-PROGRAM = pathlib.Path(__file__).resolve().parent.parent / "vineyore"
+TOP = pathlib.Path(__file__).resolve().parent.parent
+PROGRAM = TOP / "vineyore"
+sys.dont_write_bytecode = True
+sys.path.insert(0, str(TOP / "tools" / "reference"))
+
+from records import block_id, frame, header  # noqa: E402
+
 MOST = 67_108_864
-
-
-def sha256(data):
-    return hashlib.sha256(data).digest()
-
-
-NOTHING = sha256(b"")
-
-
-def varint(number):
-    groups = bytearray()
-    while number >= 128:
-        groups.append(number % 128 | 128)
-        number //= 128
-    groups.append(number)
-    return bytes(groups)
-
-
-def header(height, previous, block_time):
-    return varint(1) + varint(height) + previous + varint(block_time) + NOTHING + NOTHING + b"\x01\x51"
-
-
-def block_id(head):
-    return sha256(b"entryid:blockheader:" + sha256(head))
-
-
-def frame(head):
-    block = head + b"\x00\x00"
-    return varint(len(block)) + block
 
 
 def run(words):
@@ -68,7 +44,7 @@ def expect(found, wanted, what):
 
 
 def start(ledger):
-    first = header(1, bytes(32), 1)
+    first = header(1, bytes(32), 1, b"\x51")
     status, out, _, _ = run(["init", str(ledger), "1", "51"])
     expect((status, out), (0, b"block 1 " + block_id(first).hex().encode() + b"\n"), "the answer of init")
     expect(ledger.read_bytes(), frame(first), "the initial block")
@@ -80,7 +56,7 @@ def measure(folder, count):
     previous = start(ledger)
     frames, lines, hashed = [ledger.read_bytes()], [], 0
     for height in range(2, count + 2):
-        head = header(height, previous, height)
+        head = header(height, previous, height, b"\x51")
         previous = block_id(head)
         hashed += len(head) + len(b"entryid:blockheader:") + 32
         frames.append(frame(head))

@@ -13,38 +13,11 @@ import pathlib
 import sys
 import tempfile
 
-from apply import block_id, expect, frame as empty_frame, header as empty_header, run, sha256, varint
+from apply import expect, run  # it also says where records is
+from records import block_id, entry_id, frame, header, list_root, set_root, sha256, string, varint
 
 PROGRAM = b"\x51"
 AMOUNT = 1 << 40
-
-
-def string(data):
-    return varint(len(data)) + data
-
-
-def entry(kind, body):
-    return sha256(b"entryid:" + kind + b":" + sha256(body))
-
-
-def list_root(ids):
-    if len(ids) == 1:
-        return sha256(b"\x00" + ids[0])
-    half = 1
-    while 2 * half < len(ids):
-        half *= 2
-    return sha256(b"\x01" + list_root(ids[:half]) + list_root(ids[half:]))
-
-
-def set_root(ids, bit=0):
-    """The root of ids that are in order and agree before a bit."""
-    if len(ids) == 1:
-        return sha256(b"\x00" + ids[0])
-    while True:
-        count = sum(1 for i in ids if not i[bit // 8] >> (7 - bit % 8) & 1)
-        bit += 1
-        if 0 < count < len(ids):
-            return sha256(b"\x01" + set_root(ids[:count], bit) + set_root(ids[count:], bit))
 
 
 class Output:
@@ -54,7 +27,7 @@ class Output:
         self.amount = amount
         value = asset + varint(amount) + string(PROGRAM)
         self.body = mux + varint(place) + value + sha256(b"")
-        self.id = entry(b"output1", self.body)
+        self.id = entry_id(b"output1", self.body)
         self.spelled = b"\x00" + value + string(b"")
 
 
@@ -62,16 +35,16 @@ def transaction(kind, named, asset, amount, first, maxtime):
     """Bytes, id and outputs of a transaction whose input begins with these bytes and names this."""
     data_hash = sha256(b"")
     body = named + (asset + varint(amount) if kind == b"issuance1" else b"") + data_hash
-    mux = entry(b"mux1", varint(1) + entry(kind, body) + asset + varint(amount))
+    mux = entry_id(b"mux1", varint(1) + entry_id(kind, body) + asset + varint(amount))
     outputs = [Output(mux, 0, asset, amount - amount // 2), Output(mux, 1, asset, amount // 2)]
     times = varint(0) + varint(maxtime)
-    tx = entry(b"txheader", varint(1) + varint(2) + outputs[0].id + outputs[1].id + data_hash + times)
+    tx = entry_id(b"txheader", varint(1) + varint(2) + outputs[0].id + outputs[1].id + data_hash + times)
     spelled = varint(1) + times + string(b"") + varint(1) + first + varint(2) + outputs[0].spelled + outputs[1].spelled
     return spelled, tx, outputs
 
 
 def issuance(asset, nonce, maxtime):
-    named = entry(b"nonce", string(nonce) + asset + varint(0) + varint(maxtime))
+    named = entry_id(b"nonce", string(nonce) + asset + varint(0) + varint(maxtime))
     first = b"\x00" + string(nonce) + asset + varint(AMOUNT) + string(PROGRAM) + string(b"") + string(b"") + varint(0)
     return transaction(b"issuance1", string(named), asset, AMOUNT, first, maxtime)
 
@@ -82,19 +55,17 @@ def spend(asset, output):
 
 
 def block(height, previous, unspent, txs):
-    roots = list_root([tx[1] for tx in txs]) + set_root(sorted(unspent))
-    head = varint(1) + varint(height) + previous + varint(height) + roots + string(PROGRAM)
-    bytes_ = head + b"\x00" + varint(len(txs)) + b"".join(tx[0] for tx in txs)
-    return block_id(head), varint(len(bytes_)) + bytes_
+    head = header(height, previous, height, PROGRAM, list_root([tx[1] for tx in txs]), set_root(sorted(unspent)))
+    return block_id(head), frame(head, [tx[0] for tx in txs])
 
 
 def measure(folder, blocks, count):
     ledger, offers = folder / "ledger", folder / "offers"
-    first = empty_header(1, bytes(32), 1)
+    first = header(1, bytes(32), 1, PROGRAM)
     previous = block_id(first)
     asset = sha256(b"asset1:" + previous + string(PROGRAM) + string(b""))
     expect(run(["init", str(ledger), "1", "51"])[0], 0, "the status of init")
-    frames, lines, unspent, made = [empty_frame(first)], [], set(), []
+    frames, lines, unspent, made = [frame(first)], [], set(), []
     for height in range(2, blocks + 2):
         if height == 2:
             txs = [issuance(asset, varint(k), 2) for k in range(count)]
@@ -104,8 +75,8 @@ def measure(folder, blocks, count):
             txs = [spend(asset, output) for output in spent]
         made = [output for tx in txs for output in tx[2]]
         unspent.update(output.id for output in made)
-        previous, frame = block(height, previous, unspent, txs)
-        frames.append(frame)
+        previous, framed = block(height, previous, unspent, txs)
+        frames.append(framed)
         lines.append(f"accepted {height} {previous.hex()}\n")
     offers.write_bytes(b"".join(frames[1:]))
     status, out, seconds, memory = run(["apply", str(ledger), str(offers)])

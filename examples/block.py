@@ -6,35 +6,20 @@
 HEIGHT and TIME are decimal, PREVIOUS is the id of the block before it, and PROGRAM what the next block has to satisfy, both in hex. Such
 a block is valid where the program of the block before it succeeds without arguments. The layout is that of docs/FORMATS.md.
 """
-import hashlib
+import pathlib
 import sys
 
+sys.dont_write_bytecode = True
+sys.path.insert(0, str(pathlib.Path(__file__).resolve().parent.parent / "tools" / "reference"))
 
-def varint(n):
-    """Seven bits to a byte, the lowest first; each byte but the last has its highest bit set."""
-    spelled = bytearray()
-    while n >= 128:
-        spelled.append(n % 128 + 128)
-        n //= 128
-    return bytes(spelled) + bytes([n])
-
-
-def string(value):
-    return varint(len(value)) + value
-
-
-def block(height, previous, time, program):
-    """A block in version 1: both roots are those of no ids, and the lists of arguments and of transactions are empty."""
-    root = hashlib.sha256(b"").digest()
-    header = varint(1) + varint(height) + previous + varint(time) + root + root + string(program)
-    return header + varint(0) + varint(0)
+from records import frame, header  # noqa: E402
 
 
 def main(words):
     if len(words) != 4:
         sys.exit(__doc__)
     height, previous, time, program = words
-    sys.stdout.buffer.write(string(block(int(height), bytes.fromhex(previous), int(time), bytes.fromhex(program))))
+    sys.stdout.buffer.write(frame(header(int(height), bytes.fromhex(previous), int(time), bytes.fromhex(program))))
 
 
 if __name__ == "__main__":
