@@ -1,4 +1,4 @@
-"""Chain VM 1, written from the code table of docs/FORMATS.md and from nothing else of this repository.
+"""Chain VM 1, written from the code table of docs/FORMATS.md alone.
 
 The program under proof has no part in it: where the two disagree, one of them is wrong. Items are bytes; a stack is a list whose last
 item is on top.

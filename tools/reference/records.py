@@ -1,4 +1,4 @@
-"""Numbers, strings, blocks, ids and roots, written from docs/FORMATS.md and from nothing else of this repository."""
+"""Numbers, strings, blocks, ids and roots, written from docs/FORMATS.md alone."""
 import hashlib
 
 
