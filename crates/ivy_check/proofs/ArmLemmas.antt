@@ -1,17 +1,19 @@
 -- How the answers for the parts of an expression make up that for the whole.
-use Rattle.std.proofs.Common.{◌≡◌, ◌<◌, ◌+◌, ℕ, List, [], ◌∷◌, ◌++◌, Option, Some, None, Result, IfOk, map, not}
+use Rattle.std.proofs.Common.{◌≡◌, ◌<◌, ◌+◌, ℕ, List, [], ◌∷◌, ◌++◌, Option, Some, None, Result, map, not}
 use Rattle.std.proofs.Common.{refl, ap, sym, subst, ◌∙◌, length, get_or, drop}
 use Rattle.std.proofs.lemmas.List.{length-map}
 use Rattle.ivy_syntax.specs.declared.tree.Op.{Op}
 use Rattle.ivy_syntax.specs.declared.tree.Expr.{Expr}
 use Rattle.ivy_syntax.specs.declared.tree.Form.TheVariants.{Unary, Binary, Members}
 use Rattle.ivy_check.specs.declared.types.IvyType.{IvyType}
-use Rattle.ivy_check.specs.declared.inferred.Inferred.{Inferred}
+use Rattle.ivy_check.specs.Expressions.{Inferred}
 use Rattle.ivy_check.specs.declared.fault.Fault.{Fault}
 use Rattle.ivy_check.specs.declared.functions.Function.{Function}
 use Rattle.ivy_check.specs.declared.functions.ParamType.{ParamType}
 use Rattle.ivy_check.specs.declared.functions.ParamTypes.{ParamTypes}
 use Rattle.ivy_check.specs.declared.functions.ParamTypes.TheVariants.{Two}
+use Rattle.ivy_check.specs.declared.inferred.Inferred as found
+use Rattle.ivy_check.specs.Walk.{Infers}
 use Rattle.ivy_check.specs.Tests.{Test, Reported, fault, first_of}
 use Rattle.ivy_check.specs.Scope.{Scope}
 use Rattle.ivy_check.specs.Functions.{param_types}
@@ -112,14 +114,14 @@ module _ (scope : Scope) where
         (h ∙ (λ i. first_of (fault 10 e.at (not (takes_operands op (a_inferred i) (b_inferred i))))))
         ∙ sym (ap first_of (binary_is op left right is))
 
-    pub members_inferred : (members got : List Expr) (r : Result Inferred Fault) → e.form ≡ Members members → got ≡ members
-        → IfOk r (λ inferred. inferred ≡ list_of (length got)) → IfOk r (λ inferred. inferred ≡ (typing scope e).inferred)
+    pub members_inferred : (members got : List Expr) (r : Result found.Inferred Fault) → e.form ≡ Members members
+        → got ≡ members → Infers r (list_of (length got)) → Infers r (typing scope e).inferred
     members_inferred members got r is same h =
         let len : length got ≡ length (map (typing scope) members) =
         ap (λ (es : List Expr). length es) same ∙ sym (length-map members (typing scope)) in
         let inferred_is : list_of (length got) ≡ (typing scope e).inferred =
         ap list_of len ∙ sym (ap (λ (t : Typing). t.inferred) (typing_as scope e _ _ is (members_typing scope members))) in
-        subst (λ (o : Inferred). IfOk r (λ inferred. inferred ≡ o)) inferred_is h
+        subst (Infers r) inferred_is h
 
   -- ---- calls of two arguments
 

@@ -1,7 +1,7 @@
 -- The words of the table of types, and the tests of the same.
 use Rattle.std.proofs.Common.{◌≡◌, ◌||◌, ℕ, Bool, true, false, List, [], ◌∷◌, Option, Some, None, refl, ap, sym, ◌∙◌}
 use Rattle.std.proofs.Common.{if◌then◌else◌, get_or, codes, is_some, map, subst, unwrap_or}
-use Rattle.std.specs.Prelude.{bytes_eq}
+use Rattle.std.specs.Prelude.{bytes_eq, ◌↔◌}
 use Rattle.std.proofs.lemmas.Bool.Decides.{Decides-eqb}
 use Rattle.std.proofs.lemmas.List.Folds.{list_any-append}
 use Rattle.std.proofs.lemmas.Slice.Eq.{bytes_eq-Decides}
@@ -13,7 +13,8 @@ use Rattle.ivy_check.specs.declared.types.IvyType.TheVariants.{Amount, Asset, Bo
 use Rattle.ivy_check.specs.declared.functions.Function.{Function}
 use Rattle.ivy_check.specs.declared.functions.Function.TheVariants as f
 use Rattle.ivy_check.specs.Types.{type_named, same_type, place_of, is_numeric, is_plain}
-use Rattle.ivy_check.specs.Functions.{function_named}
+use Rattle.ivy_check.specs.Functions.{function_named, NamesFunction}
+use Rattle.ivy_check.specs.Functions as named
 use Rattle.ivy_check.specs.Scope.{Scope, is_among, kind_word, is_parameter, is_required, is_value}
 use Rattle.ivy_check.specs.Typing as rule
 use Rattle.ivy_check.specs.Typing.{NamesType, IsNumeric, IsOfBytes, Declares, is_one_of, group_names, parameter_names, value_names}
@@ -186,6 +187,50 @@ function_name_is name function =
     (bytes_eq name (codes "max")) refl)
     (bytes_eq name (codes "min")) refl)
     (bytes_eq name (codes "abs")) refl
+
+name_of_names : (function : Function) → NamesFunction (name_of function) function
+name_of_names f.Abs = named.named_abs
+name_of_names f.Min = named.named_min
+name_of_names f.Max = named.named_max
+name_of_names f.Size = named.named_size
+name_of_names f.BytesOf = named.named_bytes
+name_of_names f.Sha256 = named.named_sha256
+name_of_names f.Concat = named.named_concat
+name_of_names f.ConcatPush = named.named_concatpush
+name_of_names f.CheckTxSig = named.named_check_tx_sig
+name_of_names f.CheckTxMultiSig = named.named_check_tx_multi_sig
+name_of_names f.Before = named.named_before
+name_of_names f.After = named.named_after
+
+function_name_names : {name : List ℕ} {function : Function} → NamesFunction name function
+    → function_named name ≡ Some function
+function_name_names named.named_abs = refl
+function_name_names named.named_min = refl
+function_name_names named.named_max = refl
+function_name_names named.named_size = refl
+function_name_names named.named_bytes = refl
+function_name_names named.named_sha256 = refl
+function_name_names named.named_concat = refl
+function_name_names named.named_concatpush = refl
+function_name_names named.named_check_tx_sig = refl
+function_name_names named.named_check_tx_multi_sig = refl
+function_name_names named.named_before = refl
+function_name_names named.named_after = refl
+
+-- ---- what is found, as the tables say it
+
+pub type_found : (name : List ℕ) (found : Option IvyType) → found ≡ type_named name
+    → (type : IvyType) → (found ≡ Some type) ↔ NamesType name type
+type_found name found is type =
+    (λ h. type_name_is name type (sym is ∙ h), λ n. is ∙ type_name_names n)
+
+pub function_found : (name : List ℕ) (found : Option Function) → found ≡ function_named name
+    → (function : Function) → (found ≡ Some function) ↔ NamesFunction name function
+function_found name found is function = (
+  λ h. subst (λ (n : List ℕ). NamesFunction n function) (sym (function_name_is name function (sym is ∙ h)))
+      (name_of_names function),
+  λ n. is ∙ function_name_names n,
+)
 
 -- ---- parameters and values
 

@@ -14,7 +14,7 @@ use Rattle.ivy_syntax.specs.declared.tree.Word.{Word}
 use Rattle.ivy_syntax.specs.declared.tree.Group.{Group}
 use Rattle.ivy_check.specs.declared.types.IvyType.{IvyType}
 use Rattle.ivy_check.specs.declared.types.IvyType.TheVariants.{Boolean, Hash, Integer, PublicKey, Signature, String, Time}
-use Rattle.ivy_check.specs.declared.inferred.Inferred.{Inferred}
+use Rattle.ivy_check.specs.Expressions.{Inferred}
 use Rattle.ivy_check.specs.declared.functions.Function.{Function}
 use Rattle.ivy_check.specs.declared.functions.Function.TheVariants as f
 use Rattle.ivy_check.specs.declared.functions.ParamType.{ParamType}
@@ -36,7 +36,7 @@ use Rattle.ivy_check.proofs.WholeLemmas.{none_both}
 use Rattle.ivy_check.proofs.TypeWords.{not_both, numeric_is, bytes_are, same_is, word_declares, value_is, parameter_is, function_name_is, name_of, type_name_names}
 use Rattle.ivy_check.proofs.FormTypings.{placed_at, by_forms, expr_of, AllWithin}
 use Rattle.ivy_check.proofs.FormTypings as typings
-use Rattle.ivy_check.proofs.TypingRules.{Passes, UnaryView, is_not, is_minus, unary_view, literal_is, literal_typed, typed, typed_alike}
+use Rattle.ivy_check.proofs.TypingRules.{Passes, UnaryView, is_not, is_minus, is_none, unary_view, literal_is, literal_typed, typed, typed_alike}
 
 -- ---- tests that passed
 
@@ -83,6 +83,7 @@ data BinaryView : Op → Type 0 where
       → ((l r : Inferred) → takes_operands o l r ≡ are_of_one_type l r) → BinaryView o
   is_logical : {o : Op} → IsLogical o
       → ((l r : Inferred) → takes_operands o l r ≡ are_booleans l r) → BinaryView o
+  is_neither : {o : Op} → ((l r : Inferred) → takes_operands o l r ≡ false) → BinaryView o
 
 binary_view : (o : Op) → BinaryView o
 binary_view op.Or = is_logical rule.or (λ l r. refl)
@@ -100,8 +101,8 @@ binary_view op.Sub = is_arithmetic rule.sub (λ l r. refl)
 binary_view op.Mul = is_arithmetic rule.mul (λ l r. refl)
 binary_view op.Div = is_arithmetic rule.div (λ l r. refl)
 binary_view op.Rem = is_arithmetic rule.rem (λ l r. refl)
-binary_view op.Not = is_arithmetic rule.unary_not (λ l r. refl)
-binary_view op.Negate = is_arithmetic rule.unary_minus (λ l r. refl)
+binary_view op.Not = is_neither (λ l r. refl)
+binary_view op.Negate = is_neither (λ l r. refl)
 
 numeric_either : (c : Bool) (x y : Option IvyType) → has_numeric_type x ≡ true → has_numeric_type y ≡ true
     → has_numeric_type (if c then x else y) ≡ true
@@ -117,7 +118,8 @@ few_enough keys sigs h = few_in keys sigs (cases_lt keys sigs) h
 
 unary_members : (o : Op) (i : Inferred) → UnaryView o → (unary_result o i).members ≡ None
 unary_members op.Not i is_not = refl
-unary_members o i (is_minus m) = ap (λ (r : Inferred). r.members) (m.gives i)
+unary_members op.Negate i is_minus = refl
+unary_members o i (is_none takes gives) = ap (λ (r : Inferred). r.members) (gives i)
 
 -- the types of all parameters of these groups exist
 abbrev pub AreKnown : List Group → Type 0
@@ -229,6 +231,7 @@ module _ (scope : Scope) (clause_known : AreKnown scope.clause.params) (contract
         let found = numbers_found (sym (takes i j) ∙ h) in (Boolean, rule.order o a b found.0 is is_op found.1 found.2)
     binary_found e o is (is_equality is_op takes) h =
         let found = alike_found (sym (takes i j) ∙ h) in (Boolean, rule.equality o a b found.0 is is_op found.1)
+    binary_found e o is (is_neither takes) h = not_both (takes_operands o i j) h (takes i j)
     binary_found e o is (is_logical is_op takes) h =
         let both = true_and (has_type Boolean i.ivy_type) (has_type Boolean j.ivy_type) (sym (takes i j) ∙ h) in
         (Boolean, rule.logic o a b is is_op (as_type a Boolean s both.0) (as_type b Boolean t both.1))
@@ -236,11 +239,10 @@ module _ (scope : Scope) (clause_known : AreKnown scope.clause.params) (contract
   unary_found : (e : Expr) (o : Op) (arg : Expr) → e.form ≡ forms.Unary o arg → UnaryView o → HasSome arg
       → takes_operand o (typing scope arg).inferred ≡ true → HasSome e
   unary_found e op.Not arg is is_not s h = (Boolean, rule.negation arg is (as_type arg Boolean s h))
-  unary_found e o arg is (is_minus m) s h = (
-    s.0,
-    rule.minus o arg is m.other s.1 (is_numeric_type s.0 (typing scope arg).inferred.ivy_type (inferred_is arg s)
-        (sym (m.takes (typing scope arg).inferred) ∙ h)),
-  )
+  unary_found e op.Negate arg is is_minus s h =
+      (s.0, rule.minus arg is s.1 (is_numeric_type s.0 (typing scope arg).inferred.ivy_type (inferred_is arg s) h))
+  unary_found e o arg is (is_none takes gives) s h =
+      not_both (takes_operand o (typing scope arg).inferred) h (takes (typing scope arg).inferred)
 
   -- ---- names
 

@@ -13,7 +13,7 @@ use Rattle.ivy_syntax.specs.declared.tree.Form.TheVariants as forms
 use Rattle.ivy_syntax.specs.declared.tree.Word.{Word}
 use Rattle.ivy_check.specs.declared.types.IvyType.{IvyType}
 use Rattle.ivy_check.specs.declared.types.IvyType.TheVariants.{Boolean, Hash, Integer, PublicKey, Signature, String, Time}
-use Rattle.ivy_check.specs.declared.inferred.Inferred.{Inferred}
+use Rattle.ivy_check.specs.Expressions.{Inferred}
 use Rattle.ivy_check.specs.declared.functions.Function.{Function}
 use Rattle.ivy_check.specs.declared.functions.Function.TheVariants as f
 use Rattle.ivy_check.specs.declared.functions.ParamType.{ParamType}
@@ -24,7 +24,7 @@ use Rattle.ivy_check.specs.Tests.{Test, fault, first_of}
 use Rattle.ivy_check.specs.Types.{type_named, is_numeric, has_type, have_one_type, has_numeric_type, has_plain_type}
 use Rattle.ivy_check.specs.Scope.{Scope, is_value, is_parameter, names_parameter, name_type, parameter_type, is_unknown}
 use Rattle.ivy_check.specs.Functions.{function_named, param_types}
-use Rattle.ivy_check.specs.Expressions.{number_literal, is_list, coerced_beside, coerced, are_of_one_type, are_numeric, are_booleans}
+use Rattle.ivy_check.specs.Expressions.{of_type, number_literal, is_list, coerced_beside, coerced, are_of_one_type, are_numeric, are_booleans}
 use Rattle.ivy_check.specs.Expressions.{takes_operand, unary_result, takes_operands, binary_type, fits_param, member_type, agree}
 use Rattle.ivy_check.specs.Expressions.{member_count, result_of_one, result_of_two}
 use Rattle.ivy_check.specs.Expressions.{has_enough_keys, Typing, form_typing, typing, operand_tests, member_tests, list_tests}
@@ -151,8 +151,6 @@ arithmetic_takes rule.div l r = (refl, refl)
 arithmetic_takes rule.rem l r = (refl, refl)
 arithmetic_takes rule.shift_left l r = (refl, refl)
 arithmetic_takes rule.shift_right l r = (refl, refl)
-arithmetic_takes rule.unary_not l r = (refl, refl)
-arithmetic_takes rule.unary_minus l r = (refl, refl)
 
 order_takes : {o : Op} → IsOrder o → (l r : Inferred)
     → (takes_operands o l r ≡ are_numeric l r) × (binary_type o l r ≡ Some Boolean)
@@ -171,41 +169,32 @@ logical_takes : {o : Op} → IsLogical o → (l r : Inferred)
 logical_takes rule.and l r = (refl, refl)
 logical_takes rule.or l r = (refl, refl)
 
--- what a unary operator is: `!`, or as `-`
-pub record IsMinus (o : Op) : Type 0 where
-  pub other : o ≡ op.Not → ⊥
-  pub takes : (i : Inferred) → takes_operand o i ≡ has_numeric_type i.ivy_type
-  pub gives : (i : Inferred) → unary_result o i ≡ record { is_literal = i.is_literal; members = None; ivy_type = i.ivy_type }
-
+-- what an operator is before an operand: `!`, `-` or none
 pub data UnaryView : Op → Type 0 where
   is_not : UnaryView op.Not
-  is_minus : {o : Op} → IsMinus o → UnaryView o
+  is_minus : UnaryView op.Negate
+  is_none : {o : Op}
+      → ((i : Inferred) → takes_operand o i ≡ false)
+      → ((i : Inferred) → unary_result o i ≡ of_type None)
+      → UnaryView o
 
 pub unary_view : (o : Op) → UnaryView o
 unary_view op.Not = is_not
-unary_view _ = is_minus (record { other = λ h. cc; takes = λ i. refl; gives = λ i. refl })
-
-as_minus : (o : Op) → UnaryView o → (o ≡ op.Not → ⊥) → IsMinus o
-as_minus o is_not other = absurd (other refl)
-as_minus o (is_minus m) other = m
-
-pub minus_of : (o : Op) → (o ≡ op.Not → ⊥) → IsMinus o
-minus_of o other = as_minus o (unary_view o) other
+unary_view op.Negate = is_minus
+unary_view _ = is_none (λ i. refl) (λ i. refl)
 
 -- ---- the rules, over what is known of the parts
 
 module _ (scope : Scope) (e : Expr) where
-  minus_typed : (o : Op) (arg : Typing) (type : IvyType) → (o ≡ op.Not → ⊥) → Typed arg type → IsNumeric type
-      → Typed (placed_at e (form_typing scope (Form-F.Unary o arg))) type
-  minus_typed o arg type other t n =
-      let m = minus_of o other in (
-        ap (λ (i : Inferred). i.ivy_type) (m.gives arg.inferred) ∙ t.0,
-        ap (λ (i : Inferred). i.members) (m.gives arg.inferred),
-        λ each. both_pass (operand_tests arg) (fault 10 e.at (not (takes_operand o arg.inferred)))
-            (operand_passes arg (t.1, t.2))
-            (passes_unless 10 e.at (takes_operand o arg.inferred)
-            (m.takes arg.inferred ∙ has_numeric type arg.inferred.ivy_type n t.0)),
-      )
+  minus_typed : (arg : Typing) (type : IvyType) → Typed arg type → IsNumeric type
+      → Typed (placed_at e (form_typing scope (Form-F.Unary op.Negate arg))) type
+  minus_typed arg type t n = (
+    t.0,
+    refl,
+    λ each. both_pass (operand_tests arg) (fault 10 e.at (not (takes_operand op.Negate arg.inferred)))
+        (operand_passes arg (t.1, t.2))
+        (passes_unless 10 e.at (takes_operand op.Negate arg.inferred) (has_numeric type arg.inferred.ivy_type n t.0)),
+  )
 
   not_typed : (arg : Typing) → Typed arg Boolean → Typed (placed_at e (form_typing scope (Form-F.Unary op.Not arg))) Boolean
   not_typed arg t = (
@@ -265,14 +254,12 @@ module _ (scope : Scope) where
         ap (λ (t : Typing). t.inferred) typed,
         λ each. ap (λ (t : Typing). first_of (t.tests each)) typed,
       )
-  literal_typed (rule.after_minus {e = e} o arg is other l) =
-      let typed = typings.one_typing scope e o arg is in
-      let m = minus_of o other in
+  literal_typed (rule.after_minus {e = e} arg is l) =
+      let typed = typings.one_typing scope e op.Negate arg is in
       let ih = literal_typed l in
-      let i : Inferred = (typing scope arg).inferred in
-      let rule = minus_typed scope e o (typing scope arg) Integer other
+      let rule = minus_typed scope e (typing scope arg) Integer
       (ap (λ (i : Inferred). i.ivy_type) ih.0, ap (λ (i : Inferred). i.members) ih.0, ih.1) rule.integer in (
-        ap (λ (t : Typing). t.inferred) typed ∙ m.gives (typing scope arg).inferred
+        ap (λ (t : Typing). t.inferred) typed
             ∙ ap (λ (i : Inferred). record { is_literal = i.is_literal; members = None; ivy_type = i.ivy_type }) ih.0,
         λ each. ap (λ (t : Typing). first_of (t.tests each)) typed ∙ rule.2 each,
       )
@@ -287,10 +274,12 @@ module _ (scope : Scope) where
 
   literal_unary : (e : Expr) (o : Op) (arg : Expr) → e.form ≡ forms.Unary o arg → UnaryView o → LiteralIs arg → LiteralIs e
   literal_unary e op.Not arg is is_not ih = no_literal e _ (typings.one_typing scope e op.Not arg is) refl
-  literal_unary e o arg is (is_minus m) ih = λ h.
-      rule.after_minus o arg is m.other
-      (ih (sym (ap (λ (t : Typing). t.inferred.is_literal) (typings.one_typing scope e o arg is)
-      ∙ ap (λ (i : Inferred). i.is_literal) (m.gives (typing scope arg).inferred)) ∙ h))
+  literal_unary e op.Negate arg is is_minus ih = λ h.
+      rule.after_minus arg is
+      (ih (sym (ap (λ (t : Typing). t.inferred.is_literal) (typings.one_typing scope e op.Negate arg is)) ∙ h))
+  literal_unary e o arg is (is_none takes gives) ih =
+      no_literal e _ (typings.one_typing scope e o arg is)
+      (ap (λ (i : Inferred). i.is_literal) (gives (typing scope arg).inferred))
 
   literal_step : (from at : ℕ) (x : Form-F Form Expr) → AllWithin LiteralIs x → LiteralIs (expr_of from at x)
   literal_step from at (Form-F.Number n) all = λ h. rule.a_number n refl
@@ -499,8 +488,8 @@ module _ (scope : Scope) where
     typed (rule.text {e = e} bytes is) = by_typing e (typings.text_typing scope e bytes is) (refl, refl, λ each. refl)
     typed (rule.parameter {e = e} {type = type} name is p) =
         by_typing e (typings.name_typing scope e name is) (parameter_stands e name type p)
-    typed (rule.minus {e = e} {type = type} o arg is other h n) =
-        by_typing e (typings.one_typing scope e o arg is) (minus_typed scope e o (typing scope arg) type other (typed h) n)
+    typed (rule.minus {e = e} {type = type} arg is h n) =
+        by_typing e (typings.one_typing scope e op.Negate arg is) (minus_typed scope e (typing scope arg) type (typed h) n)
     typed (rule.negation {e = e} arg is h) =
         by_typing e (typings.one_typing scope e op.Not arg is) (not_typed scope e (typing scope arg) (typed h))
     typed (rule.arithmetic {e = e} {type = type} o a b is is_op h n) = arithmetic_typed e a b type (typed_alike h) o is is_op n

@@ -9,7 +9,6 @@ use Rattle.ivy_syntax.specs.declared.tree.Expr.{Expr, Expr-F, fold-Expr}
 use Rattle.ivy_syntax.specs.declared.tree.Form.TheOpen.{Form-F}
 use Rattle.ivy_check.specs.declared.types.IvyType.{IvyType}
 use Rattle.ivy_check.specs.declared.types.IvyType.TheVariants.{Boolean, Hash, Integer, String}
-use Rattle.ivy_check.specs.declared.inferred.Inferred.{Inferred}
 use Rattle.ivy_check.specs.declared.functions.Function.{Function}
 use Rattle.ivy_check.specs.declared.functions.Function.TheVariants as function
 use Rattle.ivy_check.specs.declared.functions.ParamType.{ParamType}
@@ -22,6 +21,15 @@ use Rattle.ivy_check.specs.Functions.{function_named, param_types}
 use Rattle.ivy_check.specs.Scope.{Scope, is_value, is_unknown, name_type}
 
 -- ---- what is inferred of expressions by themselves
+
+-- what is inferred of an expression by itself
+pub record Inferred : Type 0 where
+  -- a number, also under unary minuses: its place may give it another type
+  pub is_literal : Bool
+  -- how many members it has as a list, and nothing where it is no list
+  pub members : Option ℕ
+  -- its type; a list has none
+  pub ivy_type : Option IvyType
 
 -- what is no number and no list, and has this type
 abbrev pub of_type : Option IvyType → Inferred
@@ -66,16 +74,22 @@ are_booleans left right = has_type Boolean left.ivy_type && has_type Boolean rig
 
 -- ---- operators
 
--- `!` takes a Boolean, and `-` what is numeric
+-- `!` takes a Boolean, and `-` what is numeric. No other operator stands before an operand.
 abbrev pub takes_operand : Op → Inferred → Bool
 takes_operand op.Not inferred = has_type Boolean inferred.ivy_type
-takes_operand _ inferred = has_numeric_type inferred.ivy_type
+takes_operand op.Negate inferred = has_numeric_type inferred.ivy_type
+takes_operand _ inferred = false
 
 abbrev pub unary_result : Op → Inferred → Inferred
 unary_result op.Not inferred = of_type (Some Boolean)
-unary_result _ inferred = record { is_literal = inferred.is_literal; members = None; ivy_type = inferred.ivy_type }
+unary_result op.Negate inferred =
+    record { is_literal = inferred.is_literal; members = None; ivy_type = inferred.ivy_type }
+unary_result _ inferred = of_type None
 
+-- Neither of these two stands between operands.
 abbrev pub takes_operands : Op → (left right : Inferred) → Bool
+takes_operands op.Not left right = false
+takes_operands op.Negate left right = false
 takes_operands op.Or left right = are_booleans left right
 takes_operands op.And left right = are_booleans left right
 takes_operands op.Equal left right = are_of_one_type left right

@@ -28,6 +28,21 @@ function_named name =
     else if bytes_eq name (codes "after") then Some After
     else None
 
+-- the same as a table: the name names this function
+pub data NamesFunction : List ℕ → Function → Type 0 where
+  named_abs : NamesFunction (codes "abs") Abs
+  named_min : NamesFunction (codes "min") Min
+  named_max : NamesFunction (codes "max") Max
+  named_size : NamesFunction (codes "size") Size
+  named_bytes : NamesFunction (codes "bytes") BytesOf
+  named_sha256 : NamesFunction (codes "sha256") Sha256
+  named_concat : NamesFunction (codes "concat") Concat
+  named_concatpush : NamesFunction (codes "concatpush") ConcatPush
+  named_check_tx_sig : NamesFunction (codes "checkTxSig") CheckTxSig
+  named_check_tx_multi_sig : NamesFunction (codes "checkTxMultiSig") CheckTxMultiSig
+  named_before : NamesFunction (codes "before") Before
+  named_after : NamesFunction (codes "after") After
+
 -- the types of a function's parameters
 abbrev pub param_types : Function → ParamTypes
 param_types Abs = One Numeric

@@ -94,9 +94,6 @@ pub data IsArithmetic : Op → Type 0 where
   rem : IsArithmetic op.Rem
   shift_left : IsArithmetic op.ShiftLeft
   shift_right : IsArithmetic op.ShiftRight
-  -- No text has these two between operands. A tree that has them is typed as by the others.
-  unary_not : IsArithmetic op.Not
-  unary_minus : IsArithmetic op.Negate
 
 -- `< <= > >=`
 pub data IsOrder : Op → Type 0 where
@@ -117,14 +114,13 @@ pub data IsLogical : Op → Type 0 where
 
 -- ---- expressions
 
--- The expression is a number, also under unary minuses. No text has a unary operator but `!` and `-`.
+-- The expression is a number, also under unary minuses.
 pub data IsNumberLiteral : Expr → Type 0 where
   a_number : {e : Expr} (n : ℕ)
       → e.form ≡ form.Number n
       → IsNumberLiteral e
-  after_minus : {e : Expr} (o : Op) (arg : Expr)
-      → e.form ≡ form.Unary o arg
-      → (o ≡ op.Not → ⊥)
+  after_minus : {e : Expr} (arg : Expr)
+      → e.form ≡ form.Unary op.Negate arg
       → IsNumberLiteral arg
       → IsNumberLiteral e
 
@@ -153,9 +149,8 @@ mutual
         → IsParameter scope name type
         → HasType scope e type
     -- operations
-    minus : {e : Expr} {type : IvyType} (o : Op) (arg : Expr)
-        → e.form ≡ form.Unary o arg
-        → (o ≡ op.Not → ⊥)
+    minus : {e : Expr} {type : IvyType} (arg : Expr)
+        → e.form ≡ form.Unary op.Negate arg
         → HasType scope arg type
         → IsNumeric type
         → HasType scope e type

@@ -1,16 +1,27 @@
 -- What a function of the walk answers: the first test that holds, or where none does what it found. Only contracts of
 -- private functions name it.
-use Rattle.std.specs.Prelude.{ℕ, Option, Some, None, Result, Ok, Err}
+use Rattle.std.specs.Prelude.{◌≡◌, ℕ, Option, Some, None, Result, Ok, Err, IfOk}
 use Rattle.ivy_check.specs.declared.fault.Fault.{Fault}
 use Rattle.ivy_check.specs.declared.fault.Kind.{Kind}
 use Rattle.ivy_check.specs.declared.fault.Kind.TheVariants as kind
 use Rattle.ivy_check.specs.declared.scope.Scope as code
+use Rattle.ivy_check.specs.declared.inferred.Inferred as found
 use Rattle.ivy_check.specs.Tests.{Reported}
 use Rattle.ivy_check.specs.Scope.{Scope}
+use Rattle.ivy_check.specs.Expressions.{Inferred}
 
 -- where the code says that an expression stands
 abbrev pub scope_of : code.Scope → Scope
 scope_of scope = record { contract = scope.contract.now; clause = scope.clause.now }
+
+-- what the code has inferred
+abbrev pub inferred_of : found.Inferred → Inferred
+inferred_of inferred =
+    record { is_literal = inferred.is_literal; members = inferred.members; ivy_type = inferred.ivy_type }
+
+-- where there is no fault, this is inferred
+abbrev pub Infers : Result found.Inferred Fault → Inferred → Type 0
+Infers result inferred = IfOk result (λ found. inferred_of found ≡ inferred)
 
 abbrev pub kind_number : Kind → ℕ
 kind_number kind.ContractTwice = 1

@@ -1,5 +1,5 @@
 //! The typing of expressions.
-ghost use Rattle.std.specs.Prelude.{◌≡◌, not, length, map, IfOk};
+ghost use Rattle.std.specs.Prelude.{◌≡◌, not, length, map};
 ghost use Rattle.ivy_check.specs.Tests.{fault, first_of};
 ghost use Rattle.ivy_check.specs.Functions.{function_named};
 ghost use Rattle.ivy_check.specs.Scope.{name_type};
@@ -8,7 +8,7 @@ ghost use Rattle.ivy_check.specs.Expressions.{result_of_two};
 ghost use Rattle.ivy_check.specs.Expressions.{takes_operand, takes_operands, typing, name_tests, operand_tests};
 ghost use Rattle.ivy_check.specs.Expressions.{whole_tests, member_tests, list_tests, argument_tests, both_tests};
 ghost use Rattle.ivy_check.specs.Expressions.{call_tests, call_type};
-ghost use Rattle.ivy_check.specs.Walk.{scope_of, reported};
+ghost use Rattle.ivy_check.specs.Walk.{scope_of, reported, inferred_of, Infers};
 
 use crate::fault::{Fault, Kind, refuse_if};
 use crate::functions::{Function, ParamType, ParamTypes};
@@ -24,7 +24,7 @@ use ivy_syntax::{Expr, Form, Op};
 // A name that is used.
 fn named(scope: Scope, name: &[u8], at: u64) -> Result<Inferred, Fault>
     ensures fault { reported result ≡ first_of (name_tests (scope_of scope.entry) name.now at) }
-    ensures inferred { IfOk result (λ inferred. inferred ≡ of_type (name_type (scope_of scope.entry) name.now)) }
+    ensures inferred { Infers result (of_type (name_type (scope_of scope.entry) name.now)) }
 {
     let is_value = scope.is_value(name);
     refuse_if(
@@ -42,7 +42,7 @@ fn named(scope: Scope, name: &[u8], at: u64) -> Result<Inferred, Fault>
 #[tactic(auto, using(crate::proofs::TypingLemmas::walking), unfolding(crate::specs::Expressions::typing))]
 pub(crate) fn expression(scope: Scope, e: &Expr, each: Option<IvyType>) -> Result<Inferred, Fault>
     ensures fault { reported result ≡ first_of ((typing (scope_of scope.entry) e.now).tests each) }
-    ensures inferred { IfOk result (λ inferred. inferred ≡ (typing (scope_of scope.entry) e.now).inferred) }
+    ensures inferred { Infers result (typing (scope_of scope.entry) e.now).inferred }
 {
     match &e.form {
         Form::Number(_) => Ok(Inferred::number()),
@@ -64,16 +64,17 @@ pub(crate) fn expression(scope: Scope, e: &Expr, each: Option<IvyType>) -> Resul
 }
 
 fn unary(op: Op, at: u64, inferred: Inferred) -> Result<Inferred, Fault>
-    ensures fault { reported result ≡ first_of (fault 10 at (not (takes_operand op inferred))) }
-    ensures inferred { IfOk result (λ found. found ≡ unary_result op inferred) }
+    ensures fault { reported result ≡ first_of (fault 10 at (not (takes_operand op (inferred_of inferred)))) }
+    ensures inferred { Infers result (unary_result op (inferred_of inferred)) }
 {
     refuse_if(!takes_operand(op, inferred), Kind::WrongOperand, at)?;
     Ok(unary_result(op, inferred))
 }
 
 fn binary(op: Op, at: u64, left: Inferred, right: Inferred) -> Result<Inferred, Fault>
-    ensures fault { reported result ≡ first_of (fault 10 at (not (takes_operands op left right))) }
-    ensures inferred { IfOk result (λ found. found ≡ of_type (binary_type op left right)) }
+    ensures fault { reported result
+        ≡ first_of (fault 10 at (not (takes_operands op (inferred_of left) (inferred_of right)))) }
+    ensures inferred { Infers result (of_type (binary_type op (inferred_of left) (inferred_of right))) }
 {
     refuse_if(!takes_operands(op, left, right), Kind::WrongOperand, at)?;
     Ok(Inferred::of_type(binary_type(op, left, right)))
@@ -84,7 +85,7 @@ fn binary(op: Op, at: u64, left: Inferred, right: Inferred) -> Result<Inferred, 
 #[tactic(auto, using(crate::proofs::TypingLemmas::walking))]
 fn operand(scope: Scope, e: &Expr) -> Result<Inferred, Fault>
     ensures fault { reported result ≡ first_of (operand_tests (typing (scope_of scope.entry) e.now)) }
-    ensures inferred { IfOk result (λ inferred. inferred ≡ (typing (scope_of scope.entry) e.now).inferred) }
+    ensures inferred { Infers result (typing (scope_of scope.entry) e.now).inferred }
 {
     let inferred = expression(scope, e, None)?;
     refuse_if(inferred.is_list(), Kind::WrongArgument, e.at)?;
@@ -95,7 +96,7 @@ fn operand(scope: Scope, e: &Expr) -> Result<Inferred, Fault>
 #[tactic(auto, using(crate::proofs::TypingLemmas::walking))]
 pub(crate) fn whole_expression(scope: Scope, e: &Expr) -> Result<Inferred, Fault>
     ensures fault { reported result ≡ first_of (whole_tests (typing (scope_of scope.entry) e.now)) }
-    ensures inferred { IfOk result (λ inferred. inferred ≡ (typing (scope_of scope.entry) e.now).inferred) }
+    ensures inferred { Infers result (typing (scope_of scope.entry) e.now).inferred }
 {
     let inferred = expression(scope, e, None)?;
     refuse_if(inferred.is_list(), Kind::WrongArgument, e.from)?;
@@ -107,7 +108,7 @@ pub(crate) fn whole_expression(scope: Scope, e: &Expr) -> Result<Inferred, Fault
 #[tactic(auto, using(crate::proofs::TypingLemmas::walking))]
 fn list(scope: Scope, members: &[Expr], each: Option<IvyType>) -> Result<Inferred, Fault>
     ensures fault { reported result ≡ first_of (list_tests each (map (typing (scope_of scope.entry)) members.now)) }
-    ensures inferred { IfOk result (λ inferred. inferred ≡ list_of (length members.now)) }
+    ensures inferred { Infers result (list_of (length members.now)) }
 {
     for e in members {
         member(scope, e, each)?;
@@ -129,7 +130,7 @@ fn member(scope: Scope, e: &Expr, each: Option<IvyType>) -> Result<(), Fault>
 fn call(scope: Scope, name: &[u8], at: u64, args: &[Expr]) -> Result<Inferred, Fault>
     ensures fault { reported result ≡ first_of (call_tests (function_named name.now) at
         (map (typing (scope_of scope.entry)) args.now)) }
-    ensures inferred { IfOk result (λ inferred. inferred ≡ of_type (call_type (function_named name.now)
+    ensures inferred { Infers result (of_type (call_type (function_named name.now)
         (map (typing (scope_of scope.entry)) args.now))) }
 {
     let Some(function) = Function::named(name) else {
@@ -163,8 +164,9 @@ fn call_of_two(
     first: Inferred,
     second: Inferred,
 ) -> Result<Inferred, Fault>
-    ensures fault { reported result ≡ first_of (both_tests function at from first second) }
-    ensures inferred { IfOk result (λ inferred. inferred ≡ of_type (result_of_two function first second)) }
+    ensures fault { reported result ≡ first_of (both_tests function at from
+        (inferred_of first) (inferred_of second)) }
+    ensures inferred { Infers result (of_type (result_of_two function (inferred_of first) (inferred_of second))) }
 {
     refuse_if(!agree(function, first, second), Kind::WrongArgument, from)?;
     refuse_if(
@@ -180,7 +182,7 @@ fn call_of_two(
 #[tactic(auto, using(crate::proofs::TypingLemmas::walking))]
 fn argument(scope: Scope, param: ParamType, e: &Expr) -> Result<Inferred, Fault>
     ensures fault { reported result ≡ first_of (argument_tests param (typing (scope_of scope.entry) e.now)) }
-    ensures inferred { IfOk result (λ inferred. inferred ≡ (typing (scope_of scope.entry) e.now).inferred) }
+    ensures inferred { Infers result (typing (scope_of scope.entry) e.now).inferred }
 {
     let inferred = expression(scope, e, param.member_type())?;
     refuse_if(!inferred.fits_param(param), Kind::WrongArgument, e.from)?;

@@ -16,6 +16,7 @@ mod uses;
 mod verdict;
 
 pub use fault::TypeFault;
+pub use functions::{Function, ParamType, ParamTypes};
 pub use laws::{expression_types, type_faults, well_typed};
 pub use types::IvyType;
 pub use verdict::{Checked, check};

@@ -5,6 +5,7 @@ ghost use Rattle.ivy_check.specs.Expressions.{coerced_beside};
 ghost use Rattle.ivy_check.specs.Expressions.{are_of_one_type, are_numeric, are_booleans, takes_operand, unary_result};
 ghost use Rattle.ivy_check.specs.Expressions.{takes_operands, binary_type, fits_param, member_type, agree};
 ghost use Rattle.ivy_check.specs.Expressions.{has_enough_keys, result_of_one, result_of_two, is_member};
+ghost use Rattle.ivy_check.specs.Walk.{inferred_of};
 
 use crate::functions::{Function, ParamType};
 use crate::inferred::{Inferred, has_numeric_type, has_plain_type, has_type, have_one_type};
@@ -26,7 +27,7 @@ impl ParamType {
 impl Inferred {
     /// What is no number and no list, and has this type.
     pub(crate) fn of_type(ivy_type: Option<IvyType>) -> Inferred
-        ensures { result ≡ of_type ivy_type }
+        ensures { inferred_of result ≡ of_type ivy_type }
     {
         Inferred {
             is_literal: false,
@@ -37,7 +38,7 @@ impl Inferred {
 
     /// A number, which is an Integer by itself.
     pub(crate) fn number() -> Inferred
-        ensures { result ≡ number_literal }
+        ensures { inferred_of result ≡ number_literal }
     {
         Inferred {
             is_literal: true,
@@ -48,7 +49,7 @@ impl Inferred {
 
     /// A list of so many members.
     pub(crate) fn list(members: usize) -> Inferred
-        ensures { result ≡ list_of members }
+        ensures { inferred_of result ≡ list_of members }
     {
         Inferred {
             is_literal: false,
@@ -60,14 +61,14 @@ impl Inferred {
     /// It is a list.
     #[tactic(auto, unfolding(crate::specs::Expressions::is_list))]
     pub(crate) fn is_list(self) -> bool
-        ensures { result ≡ is_list self }
+        ensures { result ≡ is_list (inferred_of self) }
     {
         self.members.is_some()
     }
 
     // How many members it has.
     fn member_count(self) -> usize
-        ensures { result ≡ member_count self }
+        ensures { result ≡ member_count (inferred_of self) }
     {
         self.members.unwrap_or(0)
     }
@@ -75,7 +76,7 @@ impl Inferred {
     /// The type that it has beside another operand: a number takes the other's type, where that is numeric and no
     /// number too.
     pub(crate) fn coerced_beside(self, other: Inferred) -> Option<IvyType>
-        ensures { result ≡ coerced_beside other self }
+        ensures { result ≡ coerced_beside (inferred_of other) (inferred_of self) }
     {
         if self.is_literal && !other.is_literal && has_numeric_type(other.ivy_type) {
             other.ivy_type
@@ -86,7 +87,7 @@ impl Inferred {
 
     /// The type that it has where this one is expected: a number takes it, where it is numeric.
     pub(crate) fn coerced(self, expected: IvyType) -> Option<IvyType>
-        ensures { result ≡ coerced expected self }
+        ensures { result ≡ coerced expected (inferred_of self) }
     {
         if self.is_literal && expected.is_numeric() {
             Some(expected)
@@ -97,7 +98,7 @@ impl Inferred {
 
     /// A member of a list is no list, and of this type, if one is expected.
     pub(crate) fn is_member(self, each: Option<IvyType>) -> bool
-        ensures { result ≡ is_member each self }
+        ensures { result ≡ is_member each (inferred_of self) }
     {
         match each {
             Some(expected) => has_type(expected, self.ivy_type),
@@ -107,7 +108,7 @@ impl Inferred {
 
     /// It is an argument for such a parameter.
     pub(crate) fn fits_param(self, param: ParamType) -> bool
-        ensures { result ≡ fits_param param self }
+        ensures { result ≡ fits_param param (inferred_of self) }
     {
         match param {
             ParamType::Exactly(expected) => has_type(expected, self.coerced(expected)),
@@ -120,60 +121,63 @@ impl Inferred {
 }
 
 fn are_of_one_type(left: Inferred, right: Inferred) -> bool
-    ensures { result ≡ are_of_one_type left right }
+    ensures { result ≡ are_of_one_type (inferred_of left) (inferred_of right) }
 {
     have_one_type(left.coerced_beside(right), right.coerced_beside(left))
 }
 
 fn are_numeric(left: Inferred, right: Inferred) -> bool
-    ensures { result ≡ are_numeric left right }
+    ensures { result ≡ are_numeric (inferred_of left) (inferred_of right) }
 {
     are_of_one_type(left, right) && has_numeric_type(left.coerced_beside(right))
 }
 
 fn are_booleans(left: Inferred, right: Inferred) -> bool
-    ensures { result ≡ are_booleans left right }
+    ensures { result ≡ are_booleans (inferred_of left) (inferred_of right) }
 {
     has_type(IvyType::Boolean, left.ivy_type) && has_type(IvyType::Boolean, right.ivy_type)
 }
 
-/// `!` takes a Boolean, and `-` what is numeric.
+/// `!` takes a Boolean, and `-` what is numeric. No other operator stands before an operand.
 pub(crate) fn takes_operand(op: Op, inferred: Inferred) -> bool
-    ensures { result ≡ takes_operand op inferred }
+    ensures { result ≡ takes_operand op (inferred_of inferred) }
 {
     match op {
         Op::Not => has_type(IvyType::Boolean, inferred.ivy_type),
-        _ => has_numeric_type(inferred.ivy_type),
+        Op::Negate => has_numeric_type(inferred.ivy_type),
+        _ => false,
     }
 }
 
 /// What an operation of one operand is.
 pub(crate) fn unary_result(op: Op, inferred: Inferred) -> Inferred
-    ensures { result ≡ unary_result op inferred }
+    ensures { inferred_of result ≡ unary_result op (inferred_of inferred) }
 {
     match op {
         Op::Not => Inferred::of_type(Some(IvyType::Boolean)),
-        _ => Inferred {
+        Op::Negate => Inferred {
             members: None,
             ..inferred
         },
+        _ => Inferred::of_type(None),
     }
 }
 
-/// An operation takes these operands.
+/// An operation takes these operands. No `!` and no sign stands between operands.
 pub(crate) fn takes_operands(op: Op, left: Inferred, right: Inferred) -> bool
-    ensures { result ≡ takes_operands op left right }
+    ensures { result ≡ takes_operands op (inferred_of left) (inferred_of right) }
 {
     match op {
         Op::Or | Op::And => are_booleans(left, right),
         Op::Equal | Op::NotEqual => are_of_one_type(left, right),
+        Op::Not | Op::Negate => false,
         _ => are_numeric(left, right),
     }
 }
 
 /// The type of an operation of these operands.
 pub(crate) fn binary_type(op: Op, left: Inferred, right: Inferred) -> Option<IvyType>
-    ensures { result ≡ binary_type op left right }
+    ensures { result ≡ binary_type op (inferred_of left) (inferred_of right) }
 {
     match op {
         Op::Or
@@ -190,7 +194,7 @@ pub(crate) fn binary_type(op: Op, left: Inferred, right: Inferred) -> Option<Ivy
 
 /// The arguments of `min` and of `max` have one type.
 pub(crate) fn agree(function: Function, first: Inferred, second: Inferred) -> bool
-    ensures { result ≡ agree function first second }
+    ensures { result ≡ agree function (inferred_of first) (inferred_of second) }
 {
     match function {
         Function::Min | Function::Max => are_of_one_type(first, second),
@@ -200,7 +204,7 @@ pub(crate) fn agree(function: Function, first: Inferred, second: Inferred) -> bo
 
 /// Of keys and signatures there are no more signatures.
 pub(crate) fn has_enough_keys(function: Function, keys: Inferred, sigs: Inferred) -> bool
-    ensures { result ≡ has_enough_keys function keys sigs }
+    ensures { result ≡ has_enough_keys function (inferred_of keys) (inferred_of sigs) }
 {
     match function {
         Function::CheckTxMultiSig => keys.member_count() >= sigs.member_count(),
@@ -210,7 +214,7 @@ pub(crate) fn has_enough_keys(function: Function, keys: Inferred, sigs: Inferred
 
 /// The type of what a function gives for one argument.
 pub(crate) fn result_of_one(function: Function, inferred: Inferred) -> Option<IvyType>
-    ensures { result ≡ result_of_one function inferred }
+    ensures { result ≡ result_of_one function (inferred_of inferred) }
 {
     match function {
         Function::Abs => inferred.ivy_type,
@@ -228,7 +232,7 @@ pub(crate) fn result_of_two(
     first: Inferred,
     second: Inferred,
 ) -> Option<IvyType>
-    ensures { result ≡ result_of_two function first second }
+    ensures { result ≡ result_of_two function (inferred_of first) (inferred_of second) }
 {
     match function {
         Function::Min | Function::Max => first.coerced_beside(second),

@@ -1,6 +1,7 @@
 //! The types of Ivy.
-ghost use Rattle.std.specs.Prelude.{◌≡◌};
+ghost use Rattle.std.specs.Prelude.{◌≡◌, ◌↔◌, Some};
 ghost use Rattle.ivy_check.specs.Types.{type_named, same_type, is_numeric, is_plain};
+ghost use Rattle.ivy_check.specs.Typing.{NamesType};
 
 /// A type of Ivy.
 #[derive(Clone, Copy, Debug, PartialEq, Eq)]
@@ -17,34 +18,42 @@ pub enum IvyType {
     Time,
 }
 
+fn type_named(name: &[u8]) -> Option<IvyType>
+    ensures { result ≡ type_named name.now }
+{
+    if name == b"Amount".as_slice() {
+        Some(IvyType::Amount)
+    } else if name == b"Asset".as_slice() {
+        Some(IvyType::Asset)
+    } else if name == b"Boolean".as_slice() {
+        Some(IvyType::Boolean)
+    } else if name == b"Hash".as_slice() {
+        Some(IvyType::Hash)
+    } else if name == b"Integer".as_slice() {
+        Some(IvyType::Integer)
+    } else if name == b"Program".as_slice() {
+        Some(IvyType::Program)
+    } else if name == b"PublicKey".as_slice() {
+        Some(IvyType::PublicKey)
+    } else if name == b"Signature".as_slice() {
+        Some(IvyType::Signature)
+    } else if name == b"String".as_slice() {
+        Some(IvyType::String)
+    } else if name == b"Time".as_slice() {
+        Some(IvyType::Time)
+    } else {
+        None
+    }
+}
+
 impl IvyType {
     /// The type that a name names.
-    pub(crate) fn named(name: &[u8]) -> Option<IvyType>
-        ensures { result ≡ type_named name.now }
+    #[tactic(auto, using(crate::proofs::TypeWords::type_found))]
+    pub fn named(name: &[u8]) -> Option<IvyType>
+        ensures found { result ≡ type_named name.now }
+        ensures named { (type : IvyType) → (result ≡ Some type) ↔ NamesType name.now type }
     {
-        if name == b"Amount".as_slice() {
-            Some(IvyType::Amount)
-        } else if name == b"Asset".as_slice() {
-            Some(IvyType::Asset)
-        } else if name == b"Boolean".as_slice() {
-            Some(IvyType::Boolean)
-        } else if name == b"Hash".as_slice() {
-            Some(IvyType::Hash)
-        } else if name == b"Integer".as_slice() {
-            Some(IvyType::Integer)
-        } else if name == b"Program".as_slice() {
-            Some(IvyType::Program)
-        } else if name == b"PublicKey".as_slice() {
-            Some(IvyType::PublicKey)
-        } else if name == b"Signature".as_slice() {
-            Some(IvyType::Signature)
-        } else if name == b"String".as_slice() {
-            Some(IvyType::String)
-        } else if name == b"Time".as_slice() {
-            Some(IvyType::Time)
-        } else {
-            None
-        }
+        type_named(name)
     }
 
     /// This is that type.

@@ -62,7 +62,7 @@ list-loop-e-preserved t c =
 
 pub call-returns-in_err-first-in-Two-len2-clause-fault : goal.call-returns-in_err-first-in-Two-len2-clause-fault
 call-returns-in_err-first-in-Two-len2-clause-fault t c =
-    let named : function_named c.args.name.now ≡ Some c.in-Some.function = sym c.in-Some.ensures in
+    let named : function_named c.args.name.now ≡ Some c.in-Some.function = sym c.in-Some.ensures.found in
     let expected : param_types c.in-Some.function ≡ Two c.in-Two-len2.v c.in-Two-len2.w = cc in
     let args : c.args.args.now ≡ c.a-item.result ∷ c.b-item.result ∷ [] =
     two_args c.args.args.now _ _ c.in-Two-len2.len_at_least c.in-Two-len2.len_below c.a-item.is c.b-item.is in
@@ -72,7 +72,7 @@ call-returns-in_err-first-in-Two-len2-clause-fault t c =
 
 pub call-returns-in_err-second-in-Two-len2-clause-fault : goal.call-returns-in_err-second-in-Two-len2-clause-fault
 call-returns-in_err-second-in-Two-len2-clause-fault t c =
-    let named : function_named c.args.name.now ≡ Some c.in-Some.function = sym c.in-Some.ensures in
+    let named : function_named c.args.name.now ≡ Some c.in-Some.function = sym c.in-Some.ensures.found in
     let expected : param_types c.in-Some.function ≡ Two c.in-Two-len2.v c.in-Two-len2.w = cc in
     let args : c.args.args.now ≡ c.a-item.result ∷ c.b-item.result ∷ [] =
     two_args c.args.args.now _ _ c.in-Two-len2.len_at_least c.in-Two-len2.len_below c.a-item.is c.b-item.is in
@@ -82,7 +82,7 @@ call-returns-in_err-second-in-Two-len2-clause-fault t c =
 
 pub call-returns-in_ok-second-in-Two-len2-clause-fault : goal.call-returns-in_ok-second-in-Two-len2-clause-fault
 call-returns-in_ok-second-in-Two-len2-clause-fault t c =
-    let named : function_named c.args.name.now ≡ Some c.in-Some.function = sym c.in-Some.ensures in
+    let named : function_named c.args.name.now ≡ Some c.in-Some.function = sym c.in-Some.ensures.found in
     let expected : param_types c.in-Some.function ≡ Two c.in-Two-len2.v c.in-Two-len2.w = cc in
     let args : c.args.args.now ≡ c.a-item.result ∷ c.b-item.result ∷ [] =
     two_args c.args.args.now _ _ c.in-Two-len2.len_at_least c.in-Two-len2.len_below c.a-item.is c.b-item.is in
