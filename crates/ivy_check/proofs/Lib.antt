@@ -7,6 +7,7 @@ pub mod TypeWords
 pub mod FormTypings
 pub mod TypingRules
 pub mod TypingFound
+pub mod FoundTypes
 pub mod NameLists
 pub mod UseLemmas
 pub mod WellTypedLemmas

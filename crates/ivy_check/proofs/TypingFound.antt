@@ -213,7 +213,7 @@ module _ (scope : Scope) (clause_known : AreKnown scope.clause.params) (contract
         let same : t.0 ≡ s.0 = same_is t.0 s.0 (sym (λ k. have_one_type (inferred_is a s k) (inferred_is b t k)) ∙ h) in
         (s.0, rule.both s.1 (subst (HasType scope b) same t.1))
 
-    alike_found : are_of_one_type i j ≡ true → (type : IvyType) × HaveOneType scope a b type
+    pub alike_found : are_of_one_type i j ≡ true → (type : IvyType) × HaveOneType scope a b type
     alike_found h =
         alike_in (i.is_literal && not j.is_literal && has_numeric_type j.ivy_type)
         (j.is_literal && not i.is_literal && has_numeric_type i.ivy_type) refl refl h

@@ -8,12 +8,21 @@ use Rattle.ivy_syntax.specs.declared.tree.Req.{Req}
 use Rattle.ivy_syntax.specs.declared.tree.Contract.{Contract}
 use Rattle.ivy_syntax.specs.declared.tree.ClauseTree.{ClauseTree}
 use Rattle.ivy_check.specs.declared.types.IvyType.{IvyType}
+use Rattle.ivy_check.specs.declared.scope.Scope as code
 use Rattle.ivy_check.specs.Types.{type_named}
 
 -- a clause, and the contract that it stands in
 pub record Scope : Type 0 where
   pub contract : Contract
   pub clause : ClauseTree
+
+-- where what stands in a clause of a contract stands
+abbrev pub in_clause : Contract → ClauseTree → Scope
+in_clause contract clause = record { contract = contract; clause = clause }
+
+-- where the code says that an expression stands
+abbrev pub scope_of : code.Scope → Scope
+scope_of scope = in_clause scope.contract.now scope.clause.now
 
 -- the word is this name
 abbrev pub is_name : List ℕ → Word → Bool

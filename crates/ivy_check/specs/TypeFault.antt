@@ -8,7 +8,7 @@ use Rattle.ivy_syntax.specs.declared.tree.Contract.{Contract}
 use Rattle.ivy_syntax.specs.declared.tree.Source.{Source}
 use Rattle.ivy_syntax.specs.Texts.{IsOfSomeText}
 use Rattle.ivy_check.specs.Tests.{Test, Reported, causes, first_of, walked}
-use Rattle.ivy_check.specs.Scope.{Scope, is_name, is_parameter, is_required}
+use Rattle.ivy_check.specs.Scope.{Scope, in_clause, is_name, is_parameter, is_required}
 use Rattle.ivy_check.specs.Statements.{statement_tests, left_tests, sides_tests}
 use Rattle.ivy_check.specs.Uses.{unused_tests}
 use Rattle.ivy_check.specs.Declarations.{declared, is_contract_name, param_tests}
@@ -34,7 +34,7 @@ clause_body_tests scope =
 abbrev pub clause_tests : Contract → (before : List ClauseTree) → ClauseTree → List Test
 clause_tests contract before clause =
     declared 3 clause.name (list_any (λ other. is_name clause.name.name other.name) before)
-    ++ clause_body_tests (record { contract = contract; clause = clause })
+    ++ clause_body_tests (in_clause contract clause)
 
 -- a contract after others
 abbrev pub contract_tests : (before : List Contract) → Contract → List Test

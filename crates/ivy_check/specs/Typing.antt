@@ -62,6 +62,11 @@ value_names scope = scope.contract.value.name ∷ map (λ req. req.name.name) sc
 abbrev pub TypesExist : List Group → Type 0
 TypesExist = AllByRecursion (λ group. (type : IvyType) × NamesType group.kind.name type)
 
+-- and of all parameters that an expression may name
+pub record AllTypesExist (scope : Scope) : Type 0 where
+  pub of_clause : TypesExist scope.clause.params
+  pub of_contract : TypesExist scope.contract.params
+
 -- these groups declare a parameter of this name and type
 pub data Declares : List Group → List ℕ → IvyType → Type 0 where
   here : {group : Group} {groups : List Group} {name : List ℕ} {type : IvyType}

@@ -4,15 +4,9 @@ use Rattle.std.specs.Prelude.{◌≡◌, ℕ, Option, Some, None, Result, Ok, Er
 use Rattle.ivy_check.specs.declared.fault.Fault.{Fault}
 use Rattle.ivy_check.specs.declared.fault.Kind.{Kind}
 use Rattle.ivy_check.specs.declared.fault.Kind.TheVariants as kind
-use Rattle.ivy_check.specs.declared.scope.Scope as code
 use Rattle.ivy_check.specs.declared.inferred.Inferred as found
 use Rattle.ivy_check.specs.Tests.{Reported}
-use Rattle.ivy_check.specs.Scope.{Scope}
 use Rattle.ivy_check.specs.Expressions.{Inferred}
-
--- where the code says that an expression stands
-abbrev pub scope_of : code.Scope → Scope
-scope_of scope = record { contract = scope.contract.now; clause = scope.clause.now }
 
 -- what the code has inferred
 abbrev pub inferred_of : found.Inferred → Inferred

@@ -13,7 +13,7 @@ use Rattle.ivy_syntax.specs.declared.tree.ClauseTree.{ClauseTree}
 use Rattle.ivy_syntax.specs.declared.tree.Contract.{Contract}
 use Rattle.ivy_syntax.specs.declared.tree.Source.{Source}
 use Rattle.ivy_check.specs.declared.types.IvyType.TheVariants.{Amount, Asset, Boolean, Program}
-use Rattle.ivy_check.specs.Scope.{Scope}
+use Rattle.ivy_check.specs.Scope.{Scope, in_clause}
 use Rattle.ivy_check.specs.Typing.{is_one_of, parameter_names, value_names, TypesExist, HasType, TakesType}
 
 -- ---- names
@@ -146,10 +146,10 @@ pub record ClauseIsTyped (contract : Contract) (clause : ClauseTree) : Type 0 wh
   pub distinct : AreDistinct (contract_names contract ++ clause_names clause)
   pub types : TypesExist clause.params
   -- what stands in it
-  pub requirements : AllByRecursion (RequirementIsTyped (record { contract = contract; clause = clause })) clause.reqs
-  pub statements : StatementsAreTyped (record { contract = contract; clause = clause })
+  pub requirements : AllByRecursion (RequirementIsTyped (in_clause contract clause)) clause.reqs
+  pub statements : StatementsAreTyped (in_clause contract clause)
   -- No value is left, and no parameter is unused.
-  pub disposed : ValuesAreDisposed (record { contract = contract; clause = clause })
+  pub disposed : ValuesAreDisposed (in_clause contract clause)
   pub used : EachIsUsed (clause ∷ []) clause.params
 
 -- ---- contracts

@@ -4,7 +4,8 @@ ghost use Rattle.std.specs.List.{list_any};
 ghost use Rattle.ivy_check.specs.Tests.{first_of, walked};
 ghost use Rattle.ivy_check.specs.Scope.{is_name};
 ghost use Rattle.ivy_check.specs.TypeFault.{req_tests, clause_body_tests, clause_tests, contract_tests};
-ghost use Rattle.ivy_check.specs.Walk.{scope_of, reported};
+ghost use Rattle.ivy_check.specs.Scope.{scope_of};
+ghost use Rattle.ivy_check.specs.Walk.{reported};
 
 use crate::declare::{declared, is_contract_name, params};
 use crate::fault::{Fault, Kind};

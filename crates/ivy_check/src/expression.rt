@@ -8,7 +8,8 @@ ghost use Rattle.ivy_check.specs.Expressions.{result_of_two};
 ghost use Rattle.ivy_check.specs.Expressions.{takes_operand, takes_operands, typing, name_tests, operand_tests};
 ghost use Rattle.ivy_check.specs.Expressions.{whole_tests, member_tests, list_tests, argument_tests, both_tests};
 ghost use Rattle.ivy_check.specs.Expressions.{call_tests, call_type};
-ghost use Rattle.ivy_check.specs.Walk.{scope_of, reported, inferred_of, Infers};
+ghost use Rattle.ivy_check.specs.Scope.{scope_of};
+ghost use Rattle.ivy_check.specs.Walk.{reported, inferred_of, Infers};
 
 use crate::fault::{Fault, Kind, refuse_if};
 use crate::functions::{Function, ParamType, ParamTypes};

@@ -120,7 +120,8 @@ impl Inferred {
     }
 }
 
-fn are_of_one_type(left: Inferred, right: Inferred) -> bool
+/// Two of one type.
+pub(crate) fn are_of_one_type(left: Inferred, right: Inferred) -> bool
     ensures { result ≡ are_of_one_type (inferred_of left) (inferred_of right) }
 {
     have_one_type(left.coerced_beside(right), right.coerced_beside(left))

@@ -3,16 +3,16 @@ ghost use Rattle.std.specs.Prelude.{◌≡◌, option_map};
 ghost use Rattle.std.specs.Option.{option_copied};
 ghost use Rattle.ivy_check.specs.Scope.{is_name, is_among, kind_word, is_parameter, is_required, parameter_type};
 ghost use Rattle.ivy_check.specs.Scope.{is_value, names_parameter, name_type};
-ghost use Rattle.ivy_check.specs.Walk.{scope_of};
+ghost use Rattle.ivy_check.specs.Scope.{scope_of};
 
 use crate::types::IvyType;
 use ivy_syntax::{ClauseTree, Contract, Group, Req, Word};
 
 /// Where an expression stands: in a clause of a contract.
 #[derive(Clone, Copy)]
-pub(crate) struct Scope<'a> {
-    pub(crate) contract: &'a Contract,
-    pub(crate) clause: &'a ClauseTree,
+pub struct Scope<'a> {
+    pub contract: &'a Contract,
+    pub clause: &'a ClauseTree,
 }
 
 /// The word is this name.

@@ -5,7 +5,8 @@ ghost use Rattle.ivy_check.specs.Tests.{first_of, walked};
 ghost use Rattle.ivy_check.specs.Expressions.{typing};
 ghost use Rattle.ivy_check.specs.Statements.{disposes, is_disposed, verify_tests, program_tests, lock_tests};
 ghost use Rattle.ivy_check.specs.Statements.{unlock_tests, statement_tests, left, left_tests, side_tests, sides_tests};
-ghost use Rattle.ivy_check.specs.Walk.{scope_of, reported};
+ghost use Rattle.ivy_check.specs.Scope.{scope_of};
+ghost use Rattle.ivy_check.specs.Walk.{reported};
 
 use crate::expression::whole_expression;
 use crate::fault::{Fault, Kind, refuse_if};

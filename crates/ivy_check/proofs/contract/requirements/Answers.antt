@@ -1,7 +1,7 @@
 -- The first with a fault is reported, with its first.
 use Rattle.std.proofs.Common.{◌∙◌}
 use Rattle.ivy_check.specs.TypeFault.{req_tests}
-use Rattle.ivy_check.specs.Walk.{scope_of}
+use Rattle.ivy_check.specs.Scope.{scope_of}
 use Rattle.ivy_check.proofs.TestLemmas.{passed, walked_here, walked_on}
 use Rattle.ivy_check.proofs.contract.requirements.Goals as goal
 

@@ -2,7 +2,7 @@
 use Rattle.std.proofs.Common.{◌≡◌, [], take, drop}
 use Rattle.ivy_check.specs.Tests.{first_of, walked}
 use Rattle.ivy_check.specs.TypeFault.{req_tests}
-use Rattle.ivy_check.specs.Walk.{scope_of}
+use Rattle.ivy_check.specs.Scope.{scope_of}
 use Rattle.ivy_check.proofs.contract.requirements.Given as goal
 
 abbrev pub invariant-loop-k : goal.invariant-loop-k

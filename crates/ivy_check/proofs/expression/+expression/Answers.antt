@@ -2,7 +2,7 @@
 use Rattle.std.proofs.Common.{◌≡◌, ◌∷◌, [], Some, sym, ◌∙◌}
 use Rattle.ivy_check.specs.declared.functions.ParamTypes.TheVariants.{Two}
 use Rattle.ivy_check.specs.Functions.{function_named, param_types}
-use Rattle.ivy_check.specs.Walk.{scope_of}
+use Rattle.ivy_check.specs.Scope.{scope_of}
 use Rattle.ivy_check.proofs.TestLemmas.{passed}
 use Rattle.ivy_check.proofs.TypingLemmas.{two_args}
 use Rattle.ivy_check.proofs.ArmLemmas.{member_here, members_on, in_unary, of_unary, in_left, in_right, of_binary}

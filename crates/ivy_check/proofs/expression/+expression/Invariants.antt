@@ -1,7 +1,7 @@
 use Rattle.std.proofs.Common.{◌≡◌, map, drop}
 use Rattle.ivy_check.specs.Tests.{first_of}
 use Rattle.ivy_check.specs.Expressions.{typing, list_tests}
-use Rattle.ivy_check.specs.Walk.{scope_of}
+use Rattle.ivy_check.specs.Scope.{scope_of}
 use Rattle.ivy_check.proofs.expression.+expression.Given as goal
 
 -- no test of the members that were passed holds

@@ -3,7 +3,7 @@ use Rattle.std.proofs.Common.{◌∙◌, ap, sym}
 use Rattle.ivy_syntax.specs.declared.tree.Stmt.{Stmt}
 use Rattle.ivy_check.specs.Tests.{first_of}
 use Rattle.ivy_check.specs.Statements.{statement_tests}
-use Rattle.ivy_check.specs.Walk.{scope_of}
+use Rattle.ivy_check.specs.Scope.{scope_of}
 use Rattle.ivy_check.proofs.statement.statement.Goals as goal
 
 pub returns-in-Lock : goal.returns-in-Lock

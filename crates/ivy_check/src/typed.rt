@@ -1,0 +1,42 @@
+//! The types of expressions that have passed the check.
+ghost use Rattle.std.specs.Prelude.{◌≡◌, ◌↔◌, Some};
+ghost use Rattle.ivy_check.specs.Scope.{scope_of};
+ghost use Rattle.ivy_check.specs.Typing.{AllTypesExist, HasType, HaveOneType};
+
+use crate::expression::whole_expression;
+use crate::operators::are_of_one_type;
+use crate::scope::Scope;
+use crate::types::IvyType;
+use ivy_syntax::Expr;
+
+/// The type that an expression has by itself where it stands, so that of a number literal is Integer; nothing for a
+/// list, and for an expression with a type fault.
+pub fn expression_type(scope: Scope, e: &Expr) -> Option<IvyType>
+    requires types { AllTypesExist (scope_of scope) }
+    ensures typed { (type : IvyType) → (result ≡ Some type) ↔ HasType (scope_of scope.entry) e.now type }
+{
+    match whole_expression(scope, e) {
+        Ok(inferred) => inferred.ivy_type,
+        Err(_) => None,
+    }
+}
+
+/// The one type that two operands have beside one another, so that a number literal takes the other's; nothing where
+/// they have none.
+pub fn common_type(scope: Scope, left: &Expr, right: &Expr) -> Option<IvyType>
+    requires types { AllTypesExist (scope_of scope) }
+    ensures typed { (type : IvyType)
+        → (result ≡ Some type) ↔ HaveOneType (scope_of scope.entry) left.now right.now type }
+{
+    let Ok(first) = whole_expression(scope, left) else {
+        return None;
+    };
+    let Ok(second) = whole_expression(scope, right) else {
+        return None;
+    };
+    if are_of_one_type(first, second) {
+        first.coerced_beside(second)
+    } else {
+        None
+    }
+}
