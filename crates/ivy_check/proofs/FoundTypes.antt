@@ -1,5 +1,5 @@
 -- What the walk infers of expressions, as the table of types says it.
-use Rattle.std.proofs.Common.{◌≡◌, ◌↔◌, Bool, true, false, Option, Some, None, refl, ap, sym, ◌∙◌, subst, unwrap_or}
+use Rattle.std.proofs.Common.{◌≡◌, ◌↔◌, true, false, Option, Some, None, ap, sym, ◌∙◌, subst, unwrap_or}
 use Rattle.ivy_syntax.specs.declared.tree.Expr.{Expr}
 use Rattle.ivy_check.specs.declared.types.IvyType.{IvyType}
 use Rattle.ivy_check.specs.Tests.{Reported, first_of}
@@ -36,7 +36,8 @@ module _ (scope : Scope) (types : AllTypesExist scope) where
   type_found e i h type =
       let found = has_some e h.0 in
       let is : i.ivy_type ≡ (typing scope e).inferred.ivy_type = ap (λ (i : Inferred). i.ivy_type) h.1 in (
-        (λ k. subst (HasType scope e) (same_type_found i.ivy_type found.0 type (is ∙ (typed scope found.1).0) k) found.1),
+        (λ k. subst (HasType scope e)
+            (same_type_found i.ivy_type found.0 type (is ∙ (typed scope found.1).0) k) found.1),
         (λ t. is ∙ (typed scope t).0),
       )
 

@@ -11,3 +11,4 @@ pub mod FoundTypes
 pub mod NameLists
 pub mod UseLemmas
 pub mod WellTypedLemmas
+pub mod PlaceLemmas

@@ -223,7 +223,7 @@ module _ {X : Type 0} (name : X → List ℕ) (P : X → Type 0) (tests : List X
 
 -- ---- reserved names
 
-turned : (a b : List ℕ) → bytes_eq a b ≡ bytes_eq b a
+pub turned : (a b : List ℕ) → bytes_eq a b ≡ bytes_eq b a
 turned a b = by_answer (bytes_eq b a) refl
   where
     by_answer : (x : Bool) → bytes_eq b a ≡ x → bytes_eq a b ≡ x

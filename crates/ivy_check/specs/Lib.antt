@@ -8,6 +8,7 @@ pub mod Statements
 pub mod Uses
 pub mod Declarations
 pub mod WellTyped
+pub mod Parameters
 pub mod TypeFault
 pub mod Walk
 pub mod Laws

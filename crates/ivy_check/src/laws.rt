@@ -1,6 +1,7 @@
 //! What holds of the definitions, each the contract of a function with nothing to do.
 ghost use Rattle.ivy_check.specs.Laws.{EachHasOneAnswer, NothingIsLeft, EachHasOneType, NoFaultIsTyped};
 ghost use Rattle.ivy_check.specs.Laws.{NoFaultIsWellTyped};
+ghost use Rattle.ivy_check.specs.Parameters.{ParameterPlaces};
 
 /// Of every source there is one answer: one fault, or none. In a source with none, each value of a clause is disposed
 /// of and each parameter is used. It does nothing when it runs.
@@ -20,4 +21,10 @@ pub fn expression_types()
 /// types, of values and of uses. It does nothing when it runs.
 pub fn well_typed()
     ensures typed { NoFaultIsWellTyped }
+{}
+
+/// In a well-typed clause no two parameters have one name, so each stands at the place of its name. A name stands for a
+/// parameter of a type exactly where it has a place, and the parameter there has the type. It does nothing when it runs.
+pub fn parameter_places()
+    ensures { ParameterPlaces }
 {}

@@ -9,6 +9,7 @@ mod functions;
 mod inferred;
 mod laws;
 mod operators;
+mod parameters;
 mod scope;
 mod statement;
 mod typed;
@@ -18,7 +19,8 @@ mod verdict;
 
 pub use fault::TypeFault;
 pub use functions::{Function, ParamType, ParamTypes};
-pub use laws::{expression_types, type_faults, well_typed};
+pub use laws::{expression_types, parameter_places, type_faults, well_typed};
+pub use parameters::{Param, Params, all_params, params, place_of};
 pub use scope::Scope;
 pub use typed::{common_type, expression_type};
 pub use types::IvyType;

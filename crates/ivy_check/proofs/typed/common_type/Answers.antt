@@ -1,6 +1,5 @@
 -- Two that pass have the type that is found beside one another, if there is one; where one does not pass, there is none.
-use Rattle.std.proofs.Common.{◌≡◌, Option, Some, sym, ◌∙◌, subst}
-use Rattle.ivy_check.specs.declared.types.IvyType.{IvyType}
+use Rattle.std.proofs.Common.{sym, ◌∙◌}
 use Rattle.ivy_check.specs.Scope.{scope_of}
 use Rattle.ivy_check.proofs.FoundTypes.{no_left, no_right, common_found, no_common}
 use Rattle.ivy_check.proofs.typed.common_type.Goals as goal
