@@ -4,6 +4,7 @@ pub mod WholeLemmas
 pub mod TypingLemmas
 pub mod ArmLemmas
 pub mod TypeWords
+pub mod Folds
 pub mod FormTypings
 pub mod TypingRules
 pub mod TypingFound
@@ -12,3 +13,4 @@ pub mod NameLists
 pub mod UseLemmas
 pub mod WellTypedLemmas
 pub mod PlaceLemmas
+pub mod CountLemmas

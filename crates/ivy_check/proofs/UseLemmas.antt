@@ -18,6 +18,7 @@ use Rattle.ivy_check.specs.Uses.{uses, uses_at, statement_uses, req_uses, clause
 use Rattle.ivy_check.specs.WellTyped as rule
 use Rattle.ivy_check.specs.WellTyped.{StandsIn, StandsInOneOf, RequirementUses, StatementUses, ClauseUses}
 use Rattle.ivy_check.proofs.TypeWords.{same_bytes, same_self_bytes}
+use Rattle.ivy_check.proofs.Folds.{by_form}
 use Rattle.ivy_check.proofs.FormTypings.{by_forms, expr_of, AllWithin}
 
 either : (x y : Bool) → (x || y) ≡ true → (x ≡ true) ⊎ (y ≡ true)
@@ -43,11 +44,7 @@ module _ (name : List ℕ) where
         → map-Form Form Expr Bool Bool uses_of_form (uses name) x ≡ y
         → uses name e ≡ uses_at name y
     unfolding uses
-    by_rolled form x y is rolls maps =
-        fold_out-Expr Bool Bool (uses_at name) (λ e. e.form) e
-        ∙ ap uses_of_form (is ∙ sym rolls)
-        ∙ fold-roll-Form Bool Bool (uses_at name) (λ e. e.form) x
-        ∙ ap (uses_at name) maps
+    by_rolled form x y is rolls maps = by_form Bool Bool (uses_at name) (λ e. e.form) e form x y is rolls maps
 
     of_number : (n : ℕ) → e.form ≡ forms.Number n → uses name e ≡ false
     of_number n is = by_rolled (forms.Number n) (Form-F.Number n) _ is (forms.rolls-Number n) refl

@@ -9,6 +9,7 @@ pub mod Uses
 pub mod Declarations
 pub mod WellTyped
 pub mod Parameters
+pub mod Counts
 pub mod TypeFault
 pub mod Walk
 pub mod Laws

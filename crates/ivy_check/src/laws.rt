@@ -24,7 +24,8 @@ pub fn well_typed()
 {}
 
 /// In a well-typed clause no two parameters have one name, so each stands at the place of its name. A name stands for a
-/// parameter of a type exactly where it has a place, and the parameter there has the type. It does nothing when it runs.
+/// parameter of a type exactly where it has a place and the parameter there has the type. It does nothing when it
+/// runs.
 pub fn parameter_places()
     ensures { ParameterPlaces }
 {}

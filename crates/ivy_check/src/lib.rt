@@ -2,6 +2,7 @@
 #![tactic(auto)]
 
 mod contract;
+mod counts;
 mod declare;
 mod expression;
 mod fault;
@@ -17,6 +18,7 @@ mod types;
 mod uses;
 mod verdict;
 
+pub use counts::{clause_key_count, clause_use_count, key_count, use_count};
 pub use fault::TypeFault;
 pub use functions::{Function, ParamType, ParamTypes};
 pub use laws::{expression_types, parameter_places, type_faults, well_typed};
