@@ -1,5 +1,5 @@
 -- A fold over an expression, by its form.
-use Rattle.std.proofs.Common.{◌≡◌, refl, ap, sym, ◌∙◌}
+use Rattle.std.proofs.Common.{◌≡◌, ap, sym, ◌∙◌}
 use Rattle.ivy_syntax.specs.declared.tree.Expr.{Expr, Expr-F, fold-Expr, fold_out-Expr}
 use Rattle.ivy_syntax.specs.declared.tree.Form.{Form, roll-Form, map-Form}
 use Rattle.ivy_syntax.specs.declared.tree.Form.TheOpen.{Form-F}

@@ -63,7 +63,7 @@ module _ (scope : Scope) (e : Expr) where
 -- ---- induction
 
 -- a form that expressions stand in
-abbrev form_again : Form-F Form Expr → Form
+abbrev pub form_again : Form-F Form Expr → Form
 form_again (Form-F.Number n) = forms.Number n
 form_again (Form-F.Truth b) = forms.Truth b
 form_again (Form-F.Hex bytes) = forms.Hex bytes
@@ -74,7 +74,7 @@ form_again (Form-F.Members items) = forms.Members items
 form_again (Form-F.Unary op arg) = forms.Unary op arg
 form_again (Form-F.Binary op left right) = forms.Binary op left right
 
-rolled : (x : Form-F Form Expr) → roll-Form x ≡ form_again x
+pub rolled : (x : Form-F Form Expr) → roll-Form x ≡ form_again x
 rolled (Form-F.Number n) = forms.rolls-Number n
 rolled (Form-F.Truth b) = forms.rolls-Truth b
 rolled (Form-F.Hex bytes) = forms.rolls-Hex bytes

@@ -5,10 +5,10 @@ use Rattle.std.specs.Prelude.{bytes_eq}
 use Rattle.std.specs.List.{list_any, AllByRecursion, Any}
 use Rattle.std.proofs.lemmas.List.Folds.{Any-from_list_any, list_any-from_Any}
 use Rattle.ivy_syntax.specs.declared.tree.Op.{Op}
-use Rattle.ivy_syntax.specs.declared.tree.Expr.{Expr, fold_out-Expr}
+use Rattle.ivy_syntax.specs.declared.tree.Expr.{Expr}
 use Rattle.ivy_syntax.specs.declared.tree.Form.{Form, roll-Form, map-Form}
 use Rattle.ivy_syntax.specs.declared.tree.Form.TheOpen.{Form-F}
-use Rattle.ivy_syntax.specs.declared.tree.Form.TheFolds.{fold-Form, fold-roll-Form}
+use Rattle.ivy_syntax.specs.declared.tree.Form.TheFolds.{fold-Form}
 use Rattle.ivy_syntax.specs.declared.tree.Form.TheVariants as forms
 use Rattle.ivy_syntax.specs.declared.tree.Req.{Req}
 use Rattle.ivy_syntax.specs.declared.tree.Stmt.{Stmt}
@@ -21,7 +21,7 @@ use Rattle.ivy_check.proofs.TypeWords.{same_bytes, same_self_bytes}
 use Rattle.ivy_check.proofs.Folds.{by_form}
 use Rattle.ivy_check.proofs.FormTypings.{by_forms, expr_of, AllWithin}
 
-either : (x y : Bool) → (x || y) ≡ true → (x ≡ true) ⊎ (y ≡ true)
+pub either : (x y : Bool) → (x || y) ≡ true → (x ≡ true) ⊎ (y ≡ true)
 either true y h = inl refl
 either false y h = inr h
 
@@ -46,35 +46,35 @@ module _ (name : List ℕ) where
     unfolding uses
     by_rolled form x y is rolls maps = by_form Bool Bool (uses_at name) (λ e. e.form) e form x y is rolls maps
 
-    of_number : (n : ℕ) → e.form ≡ forms.Number n → uses name e ≡ false
+    pub of_number : (n : ℕ) → e.form ≡ forms.Number n → uses name e ≡ false
     of_number n is = by_rolled (forms.Number n) (Form-F.Number n) _ is (forms.rolls-Number n) refl
 
-    of_truth : (b : Bool) → e.form ≡ forms.Truth b → uses name e ≡ false
+    pub of_truth : (b : Bool) → e.form ≡ forms.Truth b → uses name e ≡ false
     of_truth b is = by_rolled (forms.Truth b) (Form-F.Truth b) _ is (forms.rolls-Truth b) refl
 
-    of_hex : (bytes : List ℕ) → e.form ≡ forms.Hex bytes → uses name e ≡ false
+    pub of_hex : (bytes : List ℕ) → e.form ≡ forms.Hex bytes → uses name e ≡ false
     of_hex bytes is = by_rolled (forms.Hex bytes) (Form-F.Hex bytes) _ is (forms.rolls-Hex bytes) refl
 
-    of_text : (bytes : List ℕ) → e.form ≡ forms.Quoted bytes → uses name e ≡ false
+    pub of_text : (bytes : List ℕ) → e.form ≡ forms.Quoted bytes → uses name e ≡ false
     of_text bytes is = by_rolled (forms.Quoted bytes) (Form-F.Quoted bytes) _ is (forms.rolls-Quoted bytes) refl
 
-    of_name : (used : List ℕ) → e.form ≡ forms.Name used → uses name e ≡ bytes_eq used name
+    pub of_name : (used : List ℕ) → e.form ≡ forms.Name used → uses name e ≡ bytes_eq used name
     of_name used is = by_rolled (forms.Name used) (Form-F.Name used) _ is (forms.rolls-Name used) refl
 
-    of_call : (function : List ℕ) (args : List Expr) → e.form ≡ forms.Call function args
+    pub of_call : (function : List ℕ) (args : List Expr) → e.form ≡ forms.Call function args
         → uses name e ≡ list_any (λ uses. uses) (map (uses name) args)
     of_call function args is =
         by_rolled (forms.Call function args) (Form-F.Call function args) _ is (forms.rolls-Call function args) refl
 
-    of_list : (members : List Expr) → e.form ≡ forms.Members members
+    pub of_list : (members : List Expr) → e.form ≡ forms.Members members
         → uses name e ≡ list_any (λ uses. uses) (map (uses name) members)
     of_list members is =
         by_rolled (forms.Members members) (Form-F.Members members) _ is (forms.rolls-Members members) refl
 
-    of_unary : (o : Op) (arg : Expr) → e.form ≡ forms.Unary o arg → uses name e ≡ uses name arg
+    pub of_unary : (o : Op) (arg : Expr) → e.form ≡ forms.Unary o arg → uses name e ≡ uses name arg
     of_unary o arg is = by_rolled (forms.Unary o arg) (Form-F.Unary o arg) _ is (forms.rolls-Unary o arg) refl
 
-    of_binary : (o : Op) (left right : Expr) → e.form ≡ forms.Binary o left right
+    pub of_binary : (o : Op) (left right : Expr) → e.form ≡ forms.Binary o left right
         → uses name e ≡ (uses name left || uses name right)
     of_binary o left right is =
         by_rolled (forms.Binary o left right) (Form-F.Binary o left right) _ is (forms.rolls-Binary o left right) refl
@@ -146,7 +146,7 @@ module _ (name : List ℕ) where
       side (inl used) = rule.in_left o left right refl (each.0 used)
       side (inr used) = rule.in_right o left right refl (each.1 used)
 
-  uses_is : (e : Expr) → (uses name e ≡ true) ↔ StandsIn name e
+  pub uses_is : (e : Expr) → (uses name e ≡ true) ↔ StandsIn name e
   uses_is e = (by_forms UsedStands used_stands e, λ h. stands_used h)
 
 -- ---- requirements, statements and clauses

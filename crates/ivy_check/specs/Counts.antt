@@ -1,7 +1,7 @@
 -- What a clause's expressions come to: uses of a name, and keys in checks of signatures. Public statements name it.
 use Rattle.std.specs.Prelude.{◌≤◌, ◌↔◌, ◌+◌, ℕ, List, [], ◌∷◌, length, sum, codes, bytes_eq, if◌then◌else◌}
 use Rattle.std.specs.List.{AllByRecursion, Any}
-use Rattle.ivy_syntax.specs.Sizes.{total, expr_nodes, clause_nodes}
+use Rattle.ivy_syntax.specs.Sizes.{total, clause_nodes}
 use Rattle.ivy_syntax.specs.declared.tree.Expr.{Expr, fold-Expr}
 use Rattle.ivy_syntax.specs.declared.tree.Form.TheOpen.{Form-F}
 use Rattle.ivy_syntax.specs.declared.tree.Req.{Req}

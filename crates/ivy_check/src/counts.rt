@@ -75,8 +75,10 @@ fn stmts_uses(name: &[u8], stmts: &[Stmt]) -> u64
 pub fn clause_use_count(name: &[u8], clause: &ClauseTree) -> u64
     ensures { result ≡ within_word (counts.clause_use_count name.now clause.now) }
 {
-    reqs_uses(name, clause.reqs.as_slice())
-        .saturating_add(stmts_uses(name, clause.stmts.as_slice()))
+    reqs_uses(name, clause.reqs.as_slice()).saturating_add(stmts_uses(
+        name,
+        clause.stmts.as_slice(),
+    ))
 }
 
 // How many members it has, if it is a list.

@@ -2,6 +2,7 @@
 ghost use Rattle.ivy_check.specs.Laws.{EachHasOneAnswer, NothingIsLeft, EachHasOneType, NoFaultIsTyped};
 ghost use Rattle.ivy_check.specs.Laws.{NoFaultIsWellTyped};
 ghost use Rattle.ivy_check.specs.Parameters.{ParameterPlaces};
+ghost use Rattle.ivy_check.specs.Counts.{UseCounts};
 
 /// Of every source there is one answer: one fault, or none. In a source with none, each value of a clause is disposed
 /// of and each parameter is used. It does nothing when it runs.
@@ -28,4 +29,10 @@ pub fn well_typed()
 /// runs.
 pub fn parameter_places()
     ensures { ParameterPlaces }
+{}
+
+/// What is counted of a name is what stands there; each parameter of a well-typed clause or contract is used; and there
+/// are no more uses in a clause than it has nodes, and no more keys. It does nothing when it runs.
+pub fn use_counts()
+    ensures { UseCounts }
 {}

@@ -21,7 +21,7 @@ mod verdict;
 pub use counts::{clause_key_count, clause_use_count, key_count, use_count};
 pub use fault::TypeFault;
 pub use functions::{Function, ParamType, ParamTypes};
-pub use laws::{expression_types, parameter_places, type_faults, well_typed};
+pub use laws::{expression_types, parameter_places, type_faults, use_counts, well_typed};
 pub use parameters::{Param, Params, all_params, params, place_of};
 pub use scope::Scope;
 pub use typed::{common_type, expression_type};
