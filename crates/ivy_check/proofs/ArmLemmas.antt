@@ -20,7 +20,8 @@ use Rattle.ivy_check.specs.Functions.{param_types}
 use Rattle.ivy_check.specs.Expressions.{Typing, typing, operand_tests, unary_tests, binary_tests, list_of}
 use Rattle.ivy_check.specs.Expressions.{takes_operand, takes_operands, member_tests, list_tests, argument_tests, both_tests, called_tests, call_tests}
 use Rattle.ivy_check.proofs.TestLemmas.{first_after, first_in_prefix, drop_at}
-use Rattle.ivy_check.proofs.TypingLemmas.{typing_as, unary_typing, binary_typing, members_typing, from_typing}
+use Rattle.ivy_check.proofs.TypingLemmas.{from_typing}
+use Rattle.ivy_check.proofs.FormTypings.{one_typing, two_typing, list_typing}
 
 module _ (scope : Scope) where
   -- ---- lists
@@ -50,12 +51,12 @@ module _ (scope : Scope) where
 
     unary_is : (op : Op) (arg : Expr) → e.form ≡ Unary op arg
         → (typing scope e).tests each ≡ unary_tests op e.at (typing scope arg)
-    unary_is op arg is = ap (λ (t : Typing). t.tests each) (typing_as scope e _ _ is (unary_typing scope op arg))
+    unary_is op arg is = ap (λ (t : Typing). t.tests each) (one_typing scope e op arg is)
 
     binary_is : (op : Op) (left right : Expr) → e.form ≡ Binary op left right
         → (typing scope e).tests each ≡ binary_tests op e.at (typing scope left) (typing scope right)
     binary_is op left right is =
-        ap (λ (t : Typing). t.tests each) (typing_as scope e _ _ is (binary_typing scope op left right))
+        ap (λ (t : Typing). t.tests each) (two_typing scope e op left right is)
 
     pub in_unary : (op : Op) (arg got : Expr) (reported : Reported) → e.form ≡ Unary op arg → got ≡ arg
         → Some reported ≡ first_of (operand_tests (typing scope got)) → Gives (Some reported)
@@ -120,7 +121,7 @@ module _ (scope : Scope) where
         let len : length got ≡ length (map (typing scope) members) =
         ap (λ (es : List Expr). length es) same ∙ sym (length-map members (typing scope)) in
         let inferred_is : list_of (length got) ≡ (typing scope e).inferred =
-        ap list_of len ∙ sym (ap (λ (t : Typing). t.inferred) (typing_as scope e _ _ is (members_typing scope members))) in
+        ap list_of len ∙ sym (ap (λ (t : Typing). t.inferred) (list_typing scope e members is)) in
         subst (Infers r) inferred_is h
 
   -- ---- calls of two arguments

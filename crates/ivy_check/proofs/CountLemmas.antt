@@ -138,7 +138,8 @@ module _ (name : List ℕ) where
       le_by _ _ _ _ (uses_of name from at (Form-F.Name used)) (nodes_of from at (Form-F.Name used))
       (one_or_none (bytes_eq used name))
   uses_step from at (Form-F.Call function args) each =
-      let parts : total (use_count name) args ≤ total expr_nodes args = total_le (use_count name) expr_nodes args each in
+      let parts : total (use_count name) args ≤ total expr_nodes args =
+      total_le (use_count name) expr_nodes args each in
       le_by _ _ (total (use_count name) args) (1 + total expr_nodes args)
       (uses_of name from at (Form-F.Call function args)) (nodes_of from at (Form-F.Call function args)) (omega arith)
   uses_step from at (Form-F.Members members) each =
@@ -286,7 +287,8 @@ keys_step from at (Form-F.Binary o left right) each =
 
 expr_keys_few : (e : Expr) → key_count e ≤ expr_nodes e
 expr_keys_few e =
-    let h : (keys_of e).members + key_count e + 1 ≤ expr_nodes e = few_in e (by_forms FewKeys keys_step e) in omega arith
+    let h : (keys_of e).members + key_count e + 1 ≤ expr_nodes e = few_in e (by_forms FewKeys keys_step e) in
+    omega arith
 
 req_keys_few : (req : Req) → req_key_count req ≤ req_nodes req
 req_keys_few req =

@@ -5,11 +5,10 @@ use Rattle.ivy_syntax.specs.declared.tree.Op.{Op}
 use Rattle.ivy_syntax.specs.declared.tree.Expr.{Expr, Expr-F, ind-Expr}
 use Rattle.ivy_syntax.specs.declared.tree.Form.{Form, roll-Form, map-Form}
 use Rattle.ivy_syntax.specs.declared.tree.Form.TheOpen.{Form-F}
-use Rattle.ivy_syntax.specs.declared.tree.Form.TheFolds.{fold-roll-Form}
 use Rattle.ivy_syntax.specs.declared.tree.Form.TheVariants as forms
 use Rattle.ivy_check.specs.Scope.{Scope}
 use Rattle.ivy_check.specs.Expressions.{Typing, FormTyping, form_typing, placed, typing}
-use Rattle.ivy_check.proofs.TypingLemmas.{typing_of_form, typing_as}
+use Rattle.ivy_check.proofs.Folds.{form_fold, by_form}
 
 -- at the places of an expression
 abbrev pub placed_at : Expr → FormTyping → Typing
@@ -20,14 +19,10 @@ module _ (scope : Scope) (e : Expr) where
   Is x = typing scope e ≡ placed_at e (form_typing scope x)
 
   by_rolled : (form : Form) (x : Form-F Form Expr) (y : Form-F FormTyping Typing) → e.form ≡ form → roll-Form x ≡ form
-      → map-Form Form Expr FormTyping Typing (typing_of_form scope) (typing scope) x ≡ y
+      → map-Form Form Expr FormTyping Typing (form_fold FormTyping Typing (form_typing scope) placed) (typing scope) x ≡ y
       → Is y
   unfolding typing
-  by_rolled form x y is rolls maps =
-      typing_as scope e form (form_typing scope y) is
-      (ap (typing_of_form scope) (sym rolls)
-      ∙ fold-roll-Form FormTyping Typing (form_typing scope) placed x
-      ∙ ap (form_typing scope) maps)
+  by_rolled form x y is rolls maps = by_form FormTyping Typing (form_typing scope) placed e form x y is rolls maps
 
   pub number_typing : (n : ℕ) → e.form ≡ forms.Number n → Is (Form-F.Number n)
   number_typing n is = by_rolled (forms.Number n) (Form-F.Number n) _ is (forms.rolls-Number n) refl

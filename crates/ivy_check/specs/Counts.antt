@@ -1,4 +1,5 @@
--- What a clause's expressions come to: uses of a name, and keys in checks of signatures. Public statements name it.
+-- How often names stand in the expressions of a clause, and how many keys its checks of signatures have. Public
+-- statements name it.
 use Rattle.std.specs.Prelude.{◌≤◌, ◌↔◌, ◌+◌, ℕ, List, [], ◌∷◌, length, sum, codes, bytes_eq, if◌then◌else◌}
 use Rattle.std.specs.List.{AllByRecursion, Any}
 use Rattle.ivy_syntax.specs.Sizes.{total, clause_nodes}

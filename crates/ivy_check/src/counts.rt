@@ -1,5 +1,5 @@
-//! What a clause's expressions come to: uses of a name, and keys in checks of signatures. A number that is too large for
-//! its type is given as 2^64 - 1.
+//! How often names stand in the expressions of a clause, and how many keys its checks of signatures have. A number that
+//! is too large for its type is given as 2^64 - 1.
 ghost use Rattle.std.specs.Prelude.{◌≡◌, map};
 ghost use Rattle.ivy_syntax.specs.Sizes.{within_word, total};
 ghost use Rattle.ivy_check.specs.Counts as counts;
