@@ -1,5 +1,5 @@
 //! The types of expressions that have passed the check.
-ghost use Rattle.std.specs.Prelude.{◌≡◌, ◌↔◌, Some};
+ghost use Rattle.std.specs.Prelude.{◌≡◌, Some};
 ghost use Rattle.ivy_check.specs.Scope.{scope_of};
 ghost use Rattle.ivy_check.specs.Typing.{AllTypesExist, HasType, HaveOneType};
 
@@ -12,8 +12,13 @@ use ivy_syntax::Expr;
 /// The type that an expression has by itself where it stands, so that of a number literal is Integer; nothing for a
 /// list, and for an expression with a type fault.
 pub fn expression_type(scope: Scope, e: &Expr) -> Option<IvyType>
-    requires types { AllTypesExist (scope_of scope) }
-    ensures typed { (type : IvyType) → (result ≡ Some type) ↔ HasType (scope_of scope.entry) e.now type }
+    // It is the type that the table gives.
+    ensures some { (type : IvyType) → HasType (scope_of scope.entry) e.now type → result ≡ Some type }
+    // There is no other, where the types of all parameters exist.
+    ensures only { (type : IvyType)
+        → AllTypesExist (scope_of scope.entry)
+        → result ≡ Some type
+        → HasType (scope_of scope.entry) e.now type }
 {
     match whole_expression(scope, e) {
         Ok(inferred) => inferred.ivy_type,
@@ -24,9 +29,15 @@ pub fn expression_type(scope: Scope, e: &Expr) -> Option<IvyType>
 /// The one type that two operands have beside one another, so that a number literal takes the other's; nothing where
 /// they have none.
 pub fn common_type(scope: Scope, left: &Expr, right: &Expr) -> Option<IvyType>
-    requires types { AllTypesExist (scope_of scope) }
-    ensures typed { (type : IvyType)
-        → (result ≡ Some type) ↔ HaveOneType (scope_of scope.entry) left.now right.now type }
+    // It is the type that the table gives.
+    ensures some { (type : IvyType)
+        → HaveOneType (scope_of scope.entry) left.now right.now type
+        → result ≡ Some type }
+    // There is no other, where the types of all parameters exist.
+    ensures only { (type : IvyType)
+        → AllTypesExist (scope_of scope.entry)
+        → result ≡ Some type
+        → HaveOneType (scope_of scope.entry) left.now right.now type }
 {
     let Ok(first) = whole_expression(scope, left) else {
         return None;
