@@ -1,0 +1,10 @@
+pub mod Items
+pub mod Naming
+pub mod Value
+pub mod Holds
+pub mod Term
+pub mod Steps
+pub mod Laws
+pub mod Lowered
+pub mod Seen
+pub mod Evaluated
