@@ -4,6 +4,7 @@
 
 mod filters;
 mod sources;
+mod trees;
 
 use anyhow::{Context, Result, bail};
 use std::io::{BufRead, BufReader};
@@ -58,6 +59,7 @@ fn ask(rt: &(impl Print + AllocGlobal), text: &[u8], verb: &str, rest: &str) -> 
         ("parse", "") => sources::parsed(rt, text),
         ("check", "") => sources::checked(rt, text),
         ("print", "") => sources::printed(rt, text),
+        ("tree", "") => trees::given(rt, text),
         ("filter", kind) => filters::filter(rt, kind, text),
         ("by", "") => filters::attribute_names(rt, text),
         (verb, _) => bail!("no line of a script: {verb}"),
