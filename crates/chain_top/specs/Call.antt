@@ -1,4 +1,4 @@
--- What a call of the program did, from what its files and its sink told before it to what they tell after it.
+-- What a call of the program did, from the state of its files and its sink before it to that after it.
 use Rattle.std.specs.Prelude.{◌≡◌, ◌⊎◌, ◌↔◌, ℕ, List, Some, None}
 use Rattle.keyed.specs.Functions.{Hash, Check}
 use Rattle.outside.specs.Files.{Content}
@@ -24,7 +24,7 @@ pub record Call (hash : Hash) (check : Check) (words : List Word) (before after 
   -- the model's reply to the words
   pub reply : Reply
   pub is_reply : IsReply hash check words choice given reply
-  -- what the reads are given is what the files hold, where they tell
+  -- what the reads are given is what the files hold, where they say it
   pub agrees : GivenBy before.contents (reads_of reply.steps) given
   -- some first steps of the reply were begun, of which the last perhaps failed, and nothing else was done
   pub begun : Begun

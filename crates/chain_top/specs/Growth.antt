@@ -32,8 +32,8 @@ abbrev pub appends : Word → List Block → List Write
 appends ledger [] = []
 appends ledger (block ∷ blocks) = write_of Append ledger (block_frame block) true ∷ appends ledger blocks
 
--- What is printed for offers with these verdicts, where so many blocks were added before: an added block is told once
--- it is appended.
+-- What is printed for offers with these verdicts, where so many blocks were added before: an added block is reported
+-- once it is appended.
 abbrev pub offers_told : Hash → ℕ → List Block → List (Option BlockRefusal) → List Line
 offers_told hash before [] verdicts = []
 offers_told hash before (offer ∷ offers) [] = []
@@ -46,7 +46,7 @@ offers_told hash before (offer ∷ offers) (Some line ∷ verdicts) =
 -- ---- a whole run
 
 -- The ledger's file has the blocks of a chain, and the file of offers has blocks. Those that are accepted one after the
--- other are added: their frames are appended, and nothing else is written. Each offer is told by its verdict.
+-- other are added: their frames are appended, and nothing else is written. Each offer is reported by its verdict.
 pub record Grows (hash : Hash) (check : Check) (ledger : Word) (first second : Content) (reply : Reply) : Type 0 where
   pub old : List Block
   pub offers : List Block
@@ -68,8 +68,8 @@ EndsGrown ledger added before after =
     (bytes_in (after ledger) ≡ bytes_in (before ledger) ++ file_spelling added)
     × ((name : List ℕ) → bytes_eq name ledger ≡ false → after name ≡ before name)
 
--- Where `apply` ended with status 0 the ledger grew by the accepted offers. Where the files tell, they held what the
--- reads were given, and hold the grown ledger.
+-- Where `apply` ended with status 0 the ledger grew by the accepted offers. Where the files say what they hold, they
+-- held what the reads were given, and hold the grown ledger.
 pub record Grown (hash : Hash) (check : Check) (ledger offers : Word) (given : Given) (reply : Reply)
     (before after : World) : Type 0 where
   pub grows : Grows hash check ledger (given 0) (given 1) reply

@@ -30,7 +30,7 @@ pub record BlockLaws : Type 0 where
       → IsHeader b
       → header_spelling a ++ x ≡ header_spelling b ++ y
       → (a ≡ b) × (x ≡ y)
-  -- what is told of other bytes is their first fault
+  -- what is reported of other bytes is their first fault
   pub fault :
       (bytes : List ℕ) (f : Fault)
       → AreBytes bytes

@@ -1,4 +1,4 @@
-//! The types of expressions that have passed the check.
+//! The types of expressions, as they are given to those who compile them.
 ghost use Rattle.std.specs.Prelude.{◌≡◌, Some};
 ghost use Rattle.ivy_check.specs.Scope.{scope_of};
 ghost use Rattle.ivy_check.specs.Typing.{AllTypesExist, HasType, HaveOneType};

@@ -48,7 +48,7 @@ content_under-bytes files of name told =
     let same : content_under files ≡ of = cc in
     subst (λ (f : List ℕ → Content). HoldsBytes (f name)) same (content_as_bytes-bytes (finite.get files name))
 
--- files that tell nothing
+-- files that say nothing of what they hold
 pub none_is_bytes :
     (of : List ℕ → Content) (name : List ℕ)
     → ◌≡◌ {A = Option (List ℕ → Content)} None (Some of)

@@ -45,7 +45,7 @@ ReadsAfter Replace false bytes old new = (new ≡ old) ⊎ (new ≡ Some bytes)
 abbrev pub ReadsAt : Write → List ℕ → Content → Content → Type 0
 ReadsAt w name old new = MatchBool (bytes_eq name w.name) (ReadsAfter w.kind w.done w.bytes old new) (new ≡ old)
 
--- the first most + 1 bytes of a file that is there, where the contents are told
+-- the first most + 1 bytes of a file that is there, where the files say what they hold
 abbrev pub ReadGives : Option (List ℕ → Content) → List ℕ → ℕ → List ℕ → Type 0
 ReadGives contents name most bytes =
     IfSome contents (λ of. IsSomeAnd (of name) (λ whole. bytes ≡ take (most + 1) whole))
@@ -69,7 +69,7 @@ WriteBegun kind name bytes (Err Failed) old new =
     new ≡ option_map (λ writes. writes ++ write_of kind name bytes false ∷ []) old
 WriteBegun kind name bytes (Err NoMemory) old new = new ≡ old
 
--- every name goes on as the write says, where the contents are told
+-- every name goes on as the write says, where the files say what they hold
 abbrev pub AllRead : Write → Option (List ℕ → Content) → Option (List ℕ → Content) → Type 0
 AllRead w None new = IsNone new
 AllRead w (Some old) new = IsSomeAnd new (λ now. (name : List ℕ) → ReadsAt w name (old name) (now name))

@@ -19,7 +19,7 @@ is_read (Read name most) = true
 is_read (Write kind name bytes) = false
 is_read (Print bytes) = false
 
--- what is kept and then more, where it is told
+-- what is kept and then more, where it is said
 abbrev pub joined : {X : Type 0} → Option (List X) → List X → Option (List X)
 joined old more = option_map (λ xs. xs ++ more) old
 

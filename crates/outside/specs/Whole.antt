@@ -1,4 +1,4 @@
--- What a loop over a writer leaves, where the writer tells what it holds. Only contracts of private functions name
+-- What a loop over a writer leaves, where the writer says what it holds. Only contracts of private functions name
 -- it.
 use Rattle.std.specs.Prelude.{ℕ, List, take, Option, Result, MatchResult}
 use Rattle.std.specs.Io.KnownBytes.{Appends}

@@ -1,4 +1,4 @@
--- What files and a sink tell of themselves at a moment, as one.
+-- What files and a sink say of themselves at a moment, as one.
 use Rattle.std.specs.Prelude.{ℕ, List, Option}
 use Rattle.outside.specs.Files.{Content, Read, Write}
 
@@ -17,7 +17,7 @@ pub record Io : Type 0 where
   pub world : World
   pub refs : ℕ × ℕ
 
--- the world of a sink and of files, from what each of the two tells
+-- the world of a sink and of files, from what each of the two says
 abbrev pub world_at :
     {F S : Type 0}
     → (S → Option (List ℕ))

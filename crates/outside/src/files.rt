@@ -9,13 +9,13 @@ use std::alloc::Global;
 
 /// Files by name.
 pub trait Files {
-    /// What a read gives of each name, where it tells.
+    /// What a read gives of each name, where the files say it.
     ghost contents: { Self → Option (List ℕ → Content) };
 
-    /// The reads begun, the oldest first, where it tells.
+    /// The reads begun, the oldest first, where the files say it.
     ghost reads: { Self → Option (List Read) };
 
-    /// The appends and replaces begun, the oldest first, where it tells. What a crash may leave is
+    /// The appends and replaces begun, the oldest first, where the files say it. What a crash may leave is
     /// `CrashLeaves` of the contents at the start of a run and of the writes begun in it.
     ghost writes: { Self → Option (List Write) };
 
@@ -52,7 +52,7 @@ pub trait Files {
         ensures count { Counts (write_faults self.old) (write_faults self.new) result }
         ensures read_count { read_faults self.new ≡ read_faults self.old };
 
-    /// What is told of a file is a list of bytes.
+    /// What the files say that one holds is a list of bytes.
     ghost contents_are_bytes: { (files : Self) (of : List ℕ → Content) (name : List ℕ)
         → contents files ≡ Some of
         → HoldsBytes (of name) };

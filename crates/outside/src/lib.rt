@@ -1,8 +1,8 @@
-//! The outside world as two traits: files by name, and a sink for what is printed. Each tells as much of itself as it
+//! The outside world as two traits: files by name, and a sink for what is printed. Each says as much of itself as it
 //! can: what it holds, what was asked of it, and how often it failed.
 //!
-//! `StdFiles` and `StdSink` are the files and the standard output of a runtime, which tell nothing of their contents.
-//! `MemFiles` and `MemSink` stand in for them in tests and tell everything. The functions without a body are laws of
+//! `StdFiles` and `StdSink` are the files and the standard output of a runtime, which say nothing of their contents.
+//! `MemFiles` and `MemSink` stand in for them in tests and say everything. The functions without a body are laws of
 //! what a crash may leave.
 #![tactic(auto)]
 

@@ -15,7 +15,7 @@ use std::alloc::Global;
 /// `Failed` comes only where the count of the step's own faults rose (reads have one, appends and replaces another,
 /// prints a third), and the step may have been done in part. After `NoMemory` nothing was begun, and all is as before.
 pub trait Outside {
-    /// What files and sink tell of themselves, and the references through which they are held.
+    /// What files and sink say of themselves, and the references through which they are held.
     ghost io: { Self → Io };
 
     /// The first `most + 1` bytes of a file, or all of it where it is shorter: a file has more than `most` bytes where
@@ -34,12 +34,12 @@ pub trait Outside {
     fn replace(&mut self, name: &str, bytes: &[u8]) -> Result<(), FileFault>
         ensures did { Began (Write Replace name.now bytes.now) (io self.old) (io self.new) result };
 
-    /// Prints one piece. An empty one is printed without a call on the sink. After a failure a front may be printed.
+    /// Prints one piece. An empty one is printed without a call on the sink. After a failure a prefix may be printed.
     fn print(&mut self, bytes: &[u8]) -> Result<(), FileFault>
         ensures did { Began (Print bytes.now) (io self.old) (io self.new) result }
         ensures empty { bytes.now ≡ [] → IsOk result };
 
-    /// What is told of a file is a list of bytes.
+    /// What the files say that one holds is a list of bytes.
     ghost contents_are_bytes: { (o : Self) (of : List ℕ → Content) (name : List ℕ)
         → (io o).world.contents ≡ Some of
         → HoldsBytes (of name) };

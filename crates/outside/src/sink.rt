@@ -7,7 +7,7 @@ use crate::FileFault;
 
 /// Where printed bytes go.
 pub trait Sink {
-    /// What it holds, where it tells.
+    /// What it holds, where it says it.
     ghost output: { Self → Option (List ℕ) };
 
     /// How often a write has failed. It never falls, and ends at 2^64 - 1.

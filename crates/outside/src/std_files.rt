@@ -10,7 +10,7 @@ use std::fs::{File, OpenFile, OpenOptions};
 use std::io::Write;
 use std::{fs, rt};
 
-/// The files of a runtime, which for a program are those of the system. It tells nothing of their contents.
+/// The files of a runtime, which for a program are those of the system. It says nothing of their contents.
 ///
 /// Each error of the system is `Failed`. What an Ok has written was handed to the disk before (`fsync`), and the folder
 /// too. The file of the last append stays open for a next one to the same name, until a write fails or a file is

@@ -6,7 +6,7 @@ use crate::whole::write_whole;
 use crate::{FileFault, Sink};
 use std::io;
 
-/// A sink that writes to what a runtime prints to, which for a program is the standard output. It tells nothing of
+/// A sink that writes to what a runtime prints to, which for a program is the standard output. It says nothing of
 /// what it holds.
 #[derive(Drop)]
 pub struct StdSink<'a, R> {

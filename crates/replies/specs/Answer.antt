@@ -49,7 +49,7 @@ Shown (line ∷ lines) done printed =
     × (((n : ℕ) × (printed ≡ take n line.text))
     ⊎ ((rest : List ℕ) × (printed ≡ line.text ++ rest) × Shown lines done rest)))
 
--- what reads give goes on by these writes, where the files tell
+-- what reads give goes on by these writes, where the files say it
 abbrev pub GoesOn : List Write → Option (List ℕ → Content) → Option (List ℕ → Content) → Type 0
 GoesOn [] old new = new ≡ old
 GoesOn (w ∷ ws) old new = (mid : Option (List ℕ → Content)) × AllRead w old mid × GoesOn ws mid new

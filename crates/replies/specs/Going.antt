@@ -31,7 +31,7 @@ pub nothing_told : (reads : List files.Read) (given : Given) → GivenBy None re
 nothing_told [] given = tt
 nothing_told (read ∷ reads) given = (tt, nothing_told reads (later given))
 
--- a plan for what the files hold, or for no files where they tell nothing
+-- a plan for what the files hold, or for no files where they do not say it
 pub record PlanAt (model : Given → Plan → Type 0) (w : World) : Type 0 where
   pub given : Given
   pub plan : Plan

@@ -53,11 +53,11 @@ later given = λ n. given (suc n)
 abbrev pub AreBytesGiven : Given → Type 0
 AreBytesGiven given = (n : ℕ) → HoldsBytes (given n)
 
--- what is told of the files is bytes
+-- what the files say that they hold is bytes
 abbrev pub TellsBytes : World → Type 0
 TellsBytes w = (of : List ℕ → Content) (name : List ℕ) → w.contents ≡ Some of → HoldsBytes (of name)
 
--- what is given to these reads, in order, is what the files hold, where they tell
+-- what is given to these reads, in order, is what the files hold, where they say it
 abbrev pub GivenBy : Option (List ℕ → Content) → List files.Read → Given → Type 0
 GivenBy contents [] given = Unit {0}
 GivenBy contents (read ∷ reads) given =

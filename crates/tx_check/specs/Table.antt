@@ -162,7 +162,7 @@ abbrev pub IsControl : Output → Type 0
 IsControl (Output.Control control) = Unit {0}
 IsControl (Output.Retire retire) = ⊥
 
--- an id is that of an unspent output, or of one of so many outputs and retirements at the front of these
+-- an id is that of an unspent output, or of one of the first so many of these outputs and retirements
 abbrev pub IsTaken : State → List (List ℕ) → ℕ → List ℕ → Type 0
 IsTaken state results k id = HasId state id ⊎ Contains (take k results) id
 

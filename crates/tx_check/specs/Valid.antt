@@ -23,7 +23,7 @@ NoneTwice kind named =
     → slice_get named k ≡ Some (kind id)
     → j ≡ k
 
--- an id is neither that of an unspent output nor that of one of so many at the front
+-- an id is neither that of an unspent output nor that of one of the first so many
 pub record IsNew (state : State) (results : List (List ℕ)) (k : ℕ) (id : List ℕ) : Type 0 where
   pub not_unspent : HasId state id → ⊥
   pub not_earlier : Contains (take k results) id → ⊥

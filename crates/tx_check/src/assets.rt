@@ -112,7 +112,7 @@ fn unbalanced_out(tx: &Tx) -> Option<TxRefusal>
     None
 }
 
-// An input is of this asset, or one of so many outputs at the front.
+// An input is of this asset, or one of the first so many outputs.
 fn appears(tx: &Tx, k: usize, asset: &Id) -> bool
     requires { k ≤ length tx.now.outputs }
     ensures { IsTrue result ↔ (Contains (map asset_in tx.now.inputs) asset.now

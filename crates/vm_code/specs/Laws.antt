@@ -15,7 +15,7 @@ pub record ReadingLaws : Type 0 where
   pub begun : (program behind : List ℕ) (place : ℕ) (d : Decoded)
       → instruction_at program place ≡ Ok d
       → instruction_at (program ++ behind) place ≡ Ok d
-  -- after a front the same is read, as much further on; a fault too
+  -- after other bytes the same is read, as much further on; a fault too
   pub fronted : (front program : List ℕ) (place : ℕ)
       → instruction_at (front ++ program) (length front + place) ≡ instruction_at program place
 

@@ -185,7 +185,7 @@ jump_cases c is =
 
 -- ---- what is written is read where it stands
 
--- a code and what stands behind it
+-- a code and what stands after it
 pub read_there : (code : ℕ) (behind before after : List ℕ)
     → instruction_at (before ++ (code ∷ behind) ++ after) (length before) ≡ decoded code (behind ++ after)
 unfolding instruction_at

@@ -33,7 +33,7 @@ pub record LineLaws (context : Context) (check : Check) : Type 0 where
       → row context check (jump 0x64 place) size items alt ≡ on_one (jump_if_row place size) items alt
 
 pub record MoveLaws (context : Context) (check : Check) (program : List ℕ) (place : ℕ) : Type 0 where
-  -- the move at a place is that of the line of the instruction there, with the place behind the instruction
+  -- the move at a place is that of the line of the instruction there, with the place after the instruction
   pub read : (items alt : List Item) (limit : ℕ) (i : Decoded)
       → instruction_at program place ≡ Ok i
       → move context check program place items alt limit
@@ -43,7 +43,7 @@ pub record MoveLaws (context : Context) (check : Check) (program : List ℕ) (pl
       → instruction_at program place ≡ Err why
       → move context check program place items alt limit ≡ Stops (failure_of why)
 
--- of the place behind an instruction, the items of both stacks, and the limit
+-- of the place after an instruction, the items of both stacks, and the limit
 pub record PaymentLaws (behind : ℕ) (items alt : List Item) (limit : ℕ) : Type 0 where
   -- a line that fails stops
   pub fails : (kind : Failure) → row_move behind items alt limit (Faults kind) ≡ Stops kind

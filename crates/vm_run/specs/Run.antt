@@ -16,7 +16,7 @@ pub data Outcome : Type 0 where
   Ended : (left : ℕ) (items alt : List Item) (count spent lost : ℕ) → Outcome
   FailedAt : (kind : Failure) (place count : ℕ) → Outcome
 
--- an outcome after so many instructions more, of these base costs and with this much lost in predicates, in front
+-- an outcome with so many instructions more before it, of these base costs and with this much lost in predicates
 abbrev pub later : ℕ → ℕ → ℕ → Outcome → Outcome
 later count spent lost (Ended left items alt n m k) = Ended left items alt (n + count) (m + spent) (k + lost)
 later count spent lost (FailedAt kind place n) = FailedAt kind place (n + count)

@@ -26,8 +26,8 @@ pub fn moves()
         → MoveLaws context check program place }
 {}
 
-/// What an instruction's line comes to, in numbers: the run stops for want of the base or of the price, or goes on with
-/// so much left, or a child is opened with so much given to it. It does nothing when it runs.
+/// What an instruction's line comes to, in numbers: the run stops where the base or the price is not covered, or goes
+/// on with so much left, or a child is opened with so much given to it. It does nothing when it runs.
 pub fn payments()
     ensures { (behind : ℕ) (items alt : List Item) (limit : ℕ) → PaymentLaws behind items alt limit }
 {}

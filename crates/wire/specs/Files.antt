@@ -15,7 +15,7 @@ pub record FileFault : Type 0 where
   pub at : ℕ
   pub kind : DataKind
 
--- Some whole records stand at the front of the bytes, and what follows is not empty and has a first fault.
+-- The bytes begin with some whole records, and what follows is not empty and has a first fault.
 pub record FirstFileFault {X : Type 0} (fits : X → Type 0) (spell : X → List ℕ) (F : Faults) (bytes : List ℕ)
     (fault : FileFault) : Type 0 where
   pub whole : List X

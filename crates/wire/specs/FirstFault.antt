@@ -68,7 +68,7 @@ pub record FaultBehind (F : Faults) (front rest bytes : List ℕ) (at : ℕ) (ki
   pub fault : F rest place kind
   pub further : at ≡ length front + place
 
--- a value that fits is spelled at the front, and the fault stands after it
+-- the bytes begin with the spelling of a value that fits, and the fault stands after it
 pub record BehindValue {X : Type 0} (fits : X → Type 0) (spell : X → List ℕ) (F : X → Faults) (bytes : List ℕ)
     (at : ℕ) (kind : DataKind) : Type 0 where
   pub value : X

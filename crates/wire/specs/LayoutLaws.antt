@@ -37,7 +37,7 @@ pub record SpellingLaws {X : Type 0} (fits : X → Type 0) (spell : X → List �
 
 pub record LayoutLaws : Type 0 where
   pub spellings : (layout : Layout) → SpellingLaws (Fits layout) (spelling layout) (FirstFault layout)
-  -- one reader reads every layout, from every place, and tells its first fault
+  -- one reader reads every layout, from every place, and reports its first fault
   pub reader : (layout : Layout) → IsReader (Fits layout) (spelling layout) (FirstFault layout) (read_at layout)
   -- a fault stands at one of the bytes, or at their end
   pub within : (layout : Layout) (bytes : List ℕ) (at : ℕ) (kind : DataKind) → FirstFault layout bytes at kind
@@ -55,7 +55,7 @@ pub record RecordLaws {X : Type 0} (layout : Layout) (fits : X → Type 0) (spel
   pub again : (x : X) → fits x → read (spell x) ≡ Ok x
   -- two spellings of two values are different, and none begins another
   pub one_form : (a b : X) (x y : List ℕ) → fits a → fits b → spell a ++ x ≡ spell b ++ y → (a ≡ b) × (x ≡ y)
-  -- what is told of other bytes is their first fault
+  -- what is reported of other bytes is their first fault
   pub fault : (bytes : List ℕ) (f : Fault) → AreBytes bytes
       → (read bytes ≡ Err f) ↔ FirstFaultOfAll layout bytes f.at f.kind
   -- bytes have at most one

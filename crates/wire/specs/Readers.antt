@@ -1,4 +1,4 @@
--- What is said of a reader, once for all readers: it reads the values that fit, and what it tells is the first fault.
+-- What is said of a reader, once for all readers: it reads the values that fit, and what it reports is the first fault.
 use Rattle.std.specs.Prelude.{◌≡◌, ℕ, ◌+◌, List, ◌++◌, length, Result, Ok, Err}
 use Rattle.wire.specs.declared.fault.DataKind.{DataKind}
 use Rattle.wire.specs.declared.fault.DataFault.{DataFault}
@@ -35,11 +35,11 @@ fault_at from off kind = record { at = from.at + off; kind = kind }
 
 pub record IsReader {X : Type 0} (fits : X → Type 0) (spell : X → List ℕ) (F : Faults) (read : Place → Reading X)
     : Type 0 where
-  -- what is read was spelled and fits, and what is told is the first fault
+  -- what is read was spelled and fits, and what is reported is the first fault
   pub sound : (p : Place) → AreBytes p.rest → Answers fits spell F p (read p)
   -- what fits and is spelled is read, whatever follows it
   pub again : (p : Place) (x : X) (q : Place) → fits x → Passes p (spell x) q → read p ≡ Ok (x, q)
-  -- the first fault is told
+  -- the first fault is reported
   pub told : (p : Place) (off : ℕ) (kind : DataKind) → AreBytes p.rest → F p.rest off kind
       → read p ≡ Err (fault_at p off kind)
 

@@ -1,4 +1,4 @@
--- Reading a spelling at the front of bytes, and the first thing that is wrong with it.
+-- Reading the spelling with which bytes begin, and the first thing that is wrong with it.
 use Rattle.std.specs.Prelude.{◌≡◌, ℕ, zero, suc, ◌+◌, ◌-◌, ◌*◌, ◌≤◌, ◌<◌, List, [], ◌∷◌, length, take, drop}
 use Rattle.std.specs.Prelude.{slice_index, slice_get, Some, Result, Ok, Err, nat_lt, ◌==◌, if◌then◌else◌, ◌⊎◌, ◌^◌}
 use Rattle.std.specs.Prelude.{◌++◌}
@@ -22,7 +22,7 @@ groups_at zero (b ∷ rest) = if nat_lt b 128 then Ok (b, rest) else Err TooBig
 groups_at (suc more) [] = Err Short
 groups_at (suc more) (b ∷ rest) = if nat_lt b 128 then Ok (b, rest) else low_group b (groups_at more rest)
 
--- the number at the front
+-- the number at the start
 unfoldable pub varint_at : List ℕ → Read ℕ
 varint_at bytes = groups_at 8 bytes
 
@@ -35,11 +35,11 @@ abbrev pub string_behind : ℕ → Read ℕ → Read (List ℕ)
 string_behind most (Ok len) = if nat_lt most len.0 then Err TooBig else cut_at len.0 len.1
 string_behind most (Err e) = Err e
 
--- the string at the front, of at most so many bytes
+-- the string at the start, of at most so many bytes
 unfoldable pub varstring_at : ℕ → List ℕ → Read (List ℕ)
 varstring_at most bytes = string_behind most (varint_at bytes)
 
--- so many bytes at the front have their high bit set
+-- the first so many bytes have their high bit set
 abbrev pub HighFront : ℕ → List ℕ → Type 0
 HighFront n bytes = (n ≤ length bytes) × ((i : ℕ) → i < n → 128 ≤ slice_index bytes i)
 

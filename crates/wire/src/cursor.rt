@@ -10,7 +10,7 @@ use std::marker::Model;
 
 const ID_LEN: u64 = 32;
 
-/// How many bytes were passed, and those that are left. Each call reads one field, and tells its fault at its first
+/// How many bytes were passed, and those that are left. Each call reads one field, and reports its fault at its first
 /// byte.
 #[derive(Drop)]
 pub struct Cursor<'a> {

@@ -42,7 +42,7 @@ pub enum DataKind {
     Kind,
     /// Bytes follow the end.
     Trailing,
-    /// A file has not the number of records that it should have. No reader of one record tells this.
+    /// A file has not the number of records that it should have. No reader of one record reports this.
     Count,
 }
 

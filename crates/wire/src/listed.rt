@@ -98,7 +98,7 @@ impl<T: Drop> Listed<T> {
         Ok(())
     }
 
-    /// Keeps at most so many values, those at the front.
+    /// Keeps at most so many values, the first ones.
     pub fn truncate(&mut self, len: usize)
         ensures { self.new ≡ take len self.old }
     {

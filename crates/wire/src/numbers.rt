@@ -27,7 +27,7 @@ pub fn put_varint(out: &mut Bytes, n: u64) -> Result<(), NoMemory>
     out.extend_from_slice(&groups[..len + 1])
 }
 
-/// The number at the front of the bytes, and how many of them spell it.
+/// The number with which the bytes begin, and how many of them spell it.
 #[tactic(auto, unfolding(crate::specs::Reading::varint_at))]
 pub fn take_varint(b: &[u8]) -> Result<(u64, u64), WireFault>
     // What is read is spelled so.
@@ -49,7 +49,7 @@ pub fn take_varint(b: &[u8]) -> Result<(u64, u64), WireFault>
     take_groups(b, 8)
 }
 
-// The number at the front, of at most so many bytes and one more, and how many bytes it takes.
+// The number at the start, of at most so many bytes and one more, and how many bytes it takes.
 #[tactic(auto, unfolding(crate::specs::Reading::groups_at))]
 fn take_groups(b: &[u8], more: u8) -> Result<(u64, u64), WireFault>
     requires { more ≤ 8 }

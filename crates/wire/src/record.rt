@@ -29,8 +29,8 @@ pub trait Record: Drop + Sized {
         requires { fits self.now }
         ensures { OnOk result (out.new ≡ out.old ++ spelling self.now) };
 
-    /// The reading is right: what it reads fits and was spelled, what fits and is spelled is read, and what it tells is
-    /// the first fault. It does nothing when it runs.
+    /// The reading is right: what it reads fits and was spelled, what fits and is spelled is read, and what it reports
+    /// is the first fault. It does nothing when it runs.
     fn readings()
         ensures { IsReader fits spelling faults reading };
 }

@@ -29,7 +29,7 @@ pub fn put_word(out: &mut Bytes, word: &[u8]) -> Result<(), NoMemory>
     out.extend_from_slice(word)
 }
 
-/// The string of at most so many bytes at the front of the bytes, and how many of them spell it. Its length is tested
+/// The string of at most so many bytes with which the bytes begin, and how many of them spell it. Its length is tested
 /// before its bytes are looked for.
 pub fn take_varstring(b: &[u8], most: u64) -> Result<(&[u8], u64), WireFault>
     // What is read is spelled so.
